@@ -23,6 +23,19 @@ pub struct Version {
     pub value: i32,
 }
 
+// A version as a message carries it: the stamp is the message's own.
+pub struct Item {
+    pub key: u8,
+    pub ordinal: Ordinal,
+    pub value: i32,
+}
+
+// The versions of one commit: the first `count` items, in log order; the places behind them mean nothing.
+pub struct Batch {
+    pub items: [Item; limits::WRITES],
+    pub count: usize,
+}
+
 // What a look-up answers.
 pub enum Found {
     At(Version),

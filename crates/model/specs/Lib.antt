@@ -1,0 +1,6 @@
+pub mod Log
+pub mod Rules
+pub mod State
+pub mod Call
+pub mod Step
+pub mod Session
