@@ -2,7 +2,7 @@
 use Prim.Native.Nat.{ℕ, suc, _+_, _-_, _<_, _≤_}
 use native.Mathlib.Omega.{arith}
 use native.Mathlib.Numerals.{add-one}
-use mathlib.Core.Path.{_≡_, refl, sym, _∙_, ap}
+use mathlib.Core.Path.{_≡_, refl, sym, _∙_, ap, fun-ext}
 use mathlib.Core.Bool.{Bool, true, false, cond, _&&_, _||_}
 use mathlib.Core.List.{List, [], _∷_}
 use lib.Dec.{leb, ltb, leb·zero, leb·suc-suc}
@@ -31,12 +31,6 @@ module _ {A : Type 0} (p : A → Bool) where
   count-none h [] = refl
   count-none h (x ∷ xs) = rw (h x) (count-none h xs)
 
-  -- tests that agree count alike
-  count-same : (q : A → Bool) → ((x : A) → p x ≡ q x) → (l : List A) → count p l ≡ count q l
-  unfolding count
-  count-same q h [] = refl
-  count-same q h (x ∷ xs) = rw (h x, count-same q h xs)
-
 -- "at or before t" has no lower end
 pub up-to : (log : List Entry) (x t : ℕ) → within log x 0 t ≡ upTo log x t
 unfolding within upTo
@@ -49,7 +43,7 @@ and-false false = refl
 -- "strictly after .. and strictly before", of two stamps in order
 pub strictly : (log : List Entry) (x after before : ℕ) → after < before → within log x (after + 1) (before - 1) ≡ between log x after before
 unfolding within between
-strictly log x after before h = count-same _ _ (λ (e : Entry). rw (add-one after, below (e .stamp) (ltb (e .stamp) before) refl)) log
+strictly log x after before h = ap (λ (p : Entry → Bool). count p log) (fun-ext (λ (e : Entry). rw (add-one after, below (e .stamp) (ltb (e .stamp) before) refl)))
   where
     below : (s : ℕ) (b : Bool) → ltb s before ≡ b → leb s (before - 1) ≡ ltb s before
     below s true e = le-leb s (before - 1) (omega (arith, ltb-true s before e)) ∙ sym e

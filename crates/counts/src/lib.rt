@@ -13,14 +13,27 @@ use units::Stamp;
 use units::limits;
 
 // O_x(t): the versions of a key with a stamp at or before `until`.
-pub fn count_up_to(keys: &[u8; limits::LOG], stamps: &[u32; limits::LOG], length: usize, key: u8, until: Stamp) -> u32
+pub fn count_up_to(
+    keys: &[u8; limits::LOG],
+    stamps: &[u32; limits::LOG],
+    length: usize,
+    key: u8,
+    until: Stamp,
+) -> u32
     ensures { λ r. ⌜ ((o : List ℕ) (v : List ℤ) → r ≡ upTo (logOf (now (keys .entry)) o (now (stamps .entry)) v (used length)) key (until .0)) ⌝ }
 {
     count_within(keys, stamps, length, key, 0, until.0)
 }
 
 // The versions of a key strictly after one stamp and strictly before another.
-pub fn count_between(keys: &[u8; limits::LOG], stamps: &[u32; limits::LOG], length: usize, key: u8, after: Stamp, before: Stamp) -> u32
+pub fn count_between(
+    keys: &[u8; limits::LOG],
+    stamps: &[u32; limits::LOG],
+    length: usize,
+    key: u8,
+    after: Stamp,
+    before: Stamp,
+) -> u32
     ensures { λ r. ⌜ ((o : List ℕ) (v : List ℤ) → r ≡ between (logOf (now (keys .entry)) o (now (stamps .entry)) v (used length)) key (after .0) (before .0)) ⌝ }
 {
     if after.0 < before.0 {
@@ -44,14 +57,27 @@ pub fn count_versions(keys: &[u8; limits::LOG], length: usize, key: u8) -> u32
 }
 
 // Whether some version of a key has a stamp above `since`: then it has more versions than up to there.
-pub fn changed_after(keys: &[u8; limits::LOG], stamps: &[u32; limits::LOG], length: usize, key: u8, since: Stamp) -> bool
+pub fn changed_after(
+    keys: &[u8; limits::LOG],
+    stamps: &[u32; limits::LOG],
+    length: usize,
+    key: u8,
+    since: Stamp,
+) -> bool
     ensures { λ r. ⌜ ((o : List ℕ) (v : List ℤ) → r ≡ changedAfter (logOf (now (keys .entry)) o (now (stamps .entry)) v (used length)) key (since .0)) ⌝ }
 {
     count_up_to(keys, stamps, length, key, since) < count_versions(keys, length, key)
 }
 
 // The one walk over keys and stamps. The test is a leaf without a branch in the loop, so that the walk can be vectorised.
-fn count_within(keys: &[u8; limits::LOG], stamps: &[u32; limits::LOG], length: usize, key: u8, low: u32, high: u32) -> u32
+fn count_within(
+    keys: &[u8; limits::LOG],
+    stamps: &[u32; limits::LOG],
+    length: usize,
+    key: u8,
+    low: u32,
+    high: u32,
+) -> u32
     ensures { λ r. ⌜ ((o : List ℕ) (v : List ℤ) → r ≡ within (logOf (now (keys .entry)) o (now (stamps .entry)) v (used length)) key low high) ⌝ }
 {
     let end = in_use(length);

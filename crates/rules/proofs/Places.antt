@@ -1,9 +1,9 @@
 -- The first n places of an array of sixteen.
-use Prim.Native.Nat.{ℕ, _<_, _≤_, min}
+use Prim.Native.Nat.{ℕ, _<_, min}
 use native.Mathlib.Omega.{arith}
 use mathlib.Core.Path.{_≡_, sym, _∙_, ap}
 use mathlib.Core.List.{List}
-use lib.ListN.{length, getD, take, length-take, List·getD-eq-default}
+use lib.ListN.{length, getD, take, length-take}
 use lib.Seq.{getD-take}
 
 module _ {A : Type 0} (n : ℕ) (l : List A) (sixteen : length l ≡ 16) where

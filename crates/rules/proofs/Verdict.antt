@@ -15,13 +15,12 @@ use Rattle.lists.specs.Lists.{find, any, count}
 use Rattle.units.specs.declared.Stamp.{Stamp}
 use Rattle.units.specs.declared.rule.Rule.{Rule}
 use Rattle.units.specs.declared.rule.Rule.the-variants.{BV, FV, SV, WC}
-use Rattle.units.specs.declared.rule.Certified.{Certified}
 use Rattle.units.specs.declared.rule.Certified.the-variants.{Whole, Broken}
 use Rattle.transaction.specs.declared.Mark.{Mark}
 use Rattle.transaction.specs.declared.Transaction.{Transaction}
 use Rattle.transaction.specs.Transaction.{readsOf, writesOf, noMark}
 use Rattle.model.specs.Log.{Entry, ofKey, upTo, between, changedAfter}
-use Rattle.model.specs.Rules.{distance, stale, early, apart, overtaken, brokenAt, certified, _orElse_}
+use Rattle.model.specs.Rules.{distance, stale, early, apart, overtaken, brokenAt, certified}
 use Rattle.counts.proofs.Laws.{nothing-between}
 use Rattle.rules.specs.declared.Test.{Test}
 use Rattle.rules.specs.declared.Test.the-variants.{Stale, Early, Torn, Apart}

@@ -33,7 +33,13 @@ enum Test {
 }
 
 // "O_x(s) − O_x(c_j), with its sign", of a read by a transaction started at `start`.
-pub fn distance_of(keys: &[u8; limits::LOG], stamps: &[u32; limits::LOG], length: usize, start: Stamp, read: Mark) -> i64
+pub fn distance_of(
+    keys: &[u8; limits::LOG],
+    stamps: &[u32; limits::LOG],
+    length: usize,
+    start: Stamp,
+    read: Mark,
+) -> i64
     ensures { λ r. ⌜ ((o : List ℕ) (v : List ℤ) → r ≡ distance (logOf (now (keys .entry)) o (now (stamps .entry)) v (used length)) (start .0) read) ⌝ }
 {
     let at_start = count_up_to(keys, stamps, length, read.key, start);
@@ -42,7 +48,12 @@ pub fn distance_of(keys: &[u8; limits::LOG], stamps: &[u32; limits::LOG], length
 }
 
 // The first broken rule, with the place of the read or written key that broke it.
-pub fn certify(keys: &[u8; limits::LOG], stamps: &[u32; limits::LOG], length: usize, t: Transaction) -> Certified
+pub fn certify(
+    keys: &[u8; limits::LOG],
+    stamps: &[u32; limits::LOG],
+    length: usize,
+    t: Transaction,
+) -> Certified
     ensures { λ r. ⌜ ((o : List ℕ) (v : List ℤ) → r ≡ certified (logOf (now (keys .entry)) o (now (stamps .entry)) v (used length)) t) ⌝ }
 {
     let reads = reads_in(t);
@@ -105,7 +116,13 @@ fn key_at(t: Transaction, i: usize) -> u8
 }
 
 // The first recorded read that fails a test, or how many there are.
-fn first(test: Test, keys: &[u8; limits::LOG], stamps: &[u32; limits::LOG], length: usize, t: Transaction) -> usize
+fn first(
+    test: Test,
+    keys: &[u8; limits::LOG],
+    stamps: &[u32; limits::LOG],
+    length: usize,
+    t: Transaction,
+) -> usize
     ensures { λ r. ⌜ ((o : List ℕ) (v : List ℤ) → r ≡ find (fails test (logOf (now (keys .entry)) o (now (stamps .entry)) v (used length)) t) (readsOf t)) ⌝ }
 {
     let end = reads_in(t);
@@ -120,7 +137,12 @@ fn first(test: Test, keys: &[u8; limits::LOG], stamps: &[u32; limits::LOG], leng
 }
 
 // The first written key that another transaction has changed since the start, or how many there are.
-fn first_overtaken(keys: &[u8; limits::LOG], stamps: &[u32; limits::LOG], length: usize, t: Transaction) -> usize
+fn first_overtaken(
+    keys: &[u8; limits::LOG],
+    stamps: &[u32; limits::LOG],
+    length: usize,
+    t: Transaction,
+) -> usize
     ensures { λ r. ⌜ ((o : List ℕ) (v : List ℤ) → r ≡ find (overtaken (logOf (now (keys .entry)) o (now (stamps .entry)) v (used length)) t) (writesOf t)) ⌝ }
 {
     let end = writes_in(t);
@@ -134,7 +156,14 @@ fn first_overtaken(keys: &[u8; limits::LOG], stamps: &[u32; limits::LOG], length
     i
 }
 
-fn fails(test: Test, keys: &[u8; limits::LOG], stamps: &[u32; limits::LOG], length: usize, t: Transaction, read: Mark) -> bool
+fn fails(
+    test: Test,
+    keys: &[u8; limits::LOG],
+    stamps: &[u32; limits::LOG],
+    length: usize,
+    t: Transaction,
+    read: Mark,
+) -> bool
     ensures { λ r. ⌜ ((o : List ℕ) (v : List ℤ) → r ≡ fails test (logOf (now (keys .entry)) o (now (stamps .entry)) v (used length)) t read) ⌝ }
 {
     let b = t.bounds;

@@ -1,15 +1,11 @@
 -- `difference` meets its contract: two 32-bit numbers are themselves as 64-bit signed ones, and their difference fits.
 use native.Mathlib.Omega.{arith}
-use mathlib.Core.Path.{_∙_}
-use lib.IntN.{_-ℤ_}
 use mir.Facts.{toZ-ofZ, toZ-pos}
 use mir.Syntax.{w64}
 use borrow.Author.Needs.{needs}
 use Rattle.rules.proofs.Signed.{difference-fits}
 use Rattle.rules.proofs.difference.Statement.{statement}
 use Rattle.rules.proofs.difference.Tie as tie
-use Rattle.rules.proofs.difference.Reads as reads
-use Rattle.rules.proofs.difference.Lts as lts
 
 cast-result : tie.Need-cast-result
 cast-result c = search needs

@@ -1,15 +1,9 @@
 -- `distance_of` meets its contract: the difference of the two counts.
 use mir.Facts.{toZ-ofZ}
-use mir.Syntax.{w64}
-use mir.Val.{SFits}
 use Rattle.rules.proofs.Verdict.{by-counts}
 use borrow.Author.Needs.{needs}
 use Rattle.rules.proofs.distance_of.Statement.{statement}
 use Rattle.rules.proofs.distance_of.Tie as tie
-use Rattle.rules.proofs.distance_of.Reads as reads
-use Rattle.rules.proofs.distance_of.Lts as lts
-use Rattle.counts.proofs.count_up_to.Reads as count-up-to-reads
-use Rattle.rules.proofs.difference.Reads as difference-reads
 
 count-up-to-requires : tie.Need-count-up-to-requires
 count-up-to-requires c κs = search needs

@@ -1,18 +1,9 @@
 -- `fails` meets its contract: each arm is a case of the test.
 use mir.Facts.{toZ-ofZ}
-use mir.Syntax.{w64}
-use mir.Val.{SFits}
 use Rattle.rules.proofs.Verdict.{is-stale, is-early, is-torn, is-apart}
 use borrow.Author.Needs.{needs}
 use Rattle.rules.proofs.fails.Statement.{statement}
 use Rattle.rules.proofs.fails.Tie as tie
-use Rattle.rules.proofs.fails.Reads as reads
-use Rattle.rules.proofs.fails.Lts as lts
-use Rattle.counts.proofs.count_between.Reads as count-between-reads
-use Rattle.rules.proofs.distance_of.Reads as distance-of-reads
-use Rattle.rules.proofs.is_early.Reads as is-early-reads
-use Rattle.rules.proofs.is_stale.Reads as is-stale-reads
-use Rattle.rules.proofs.wide.Reads as wide-reads
 
 enum-told : tie.Need-enum-told
 enum-told c = search needs

@@ -14,8 +14,6 @@ use Rattle.transaction.specs.Transaction.{readsOf, noMark}
 use Rattle.rules.specs.Tests.{fails}
 use Rattle.rules.proofs.first.Statement.{statement}
 use Rattle.rules.proofs.first.Tie as tie
-use Rattle.rules.proofs.first.Reads as reads
-use Rattle.rules.proofs.first.Lts as lts
 
 abbrev Inv-loop : tie.InvT-loop
 Inv-loop test keys stamps length t end i₀ i = (end ≡ L.length (readsOf t)) × ((o : List ℕ) (v : List ℤ) → find (fails test (logOf keys o stamps v (used length)) t) (readsOf t) ≡ i + find (fails test (logOf keys o stamps v (used length)) t) (drop i (readsOf t)))

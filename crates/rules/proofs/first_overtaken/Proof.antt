@@ -15,8 +15,6 @@ use Rattle.model.specs.Rules.{overtaken}
 use Rattle.rules.proofs.Verdict.{of-key}
 use Rattle.rules.proofs.first_overtaken.Statement.{statement}
 use Rattle.rules.proofs.first_overtaken.Tie as tie
-use Rattle.rules.proofs.first_overtaken.Reads as reads
-use Rattle.rules.proofs.first_overtaken.Lts as lts
 
 abbrev Inv-loop : tie.InvT-loop
 Inv-loop keys stamps length t end i₀ i = (end ≡ L.length (writesOf t)) × ((o : List ℕ) (v : List ℤ) → find (overtaken (logOf keys o stamps v (used length)) t) (writesOf t) ≡ i + find (overtaken (logOf keys o stamps v (used length)) t) (drop i (writesOf t)))

@@ -5,8 +5,6 @@ use borrow.Author.Needs.{needs}
 use Rattle.rules.proofs.Signed.{past, complement}
 use Rattle.rules.proofs.is_early.Statement.{statement}
 use Rattle.rules.proofs.is_early.Tie as tie
-use Rattle.rules.proofs.is_early.Reads as reads
-use Rattle.rules.proofs.is_early.Lts as lts
 
 cast-result : tie.Need-cast-result
 cast-result c = search needs

@@ -6,8 +6,6 @@ use borrow.Author.Needs.{needs}
 use Rattle.rules.proofs.Signed.{at-least}
 use Rattle.rules.proofs.is_stale.Statement.{statement}
 use Rattle.rules.proofs.is_stale.Tie as tie
-use Rattle.rules.proofs.is_stale.Reads as reads
-use Rattle.rules.proofs.is_stale.Lts as lts
 
 cast-result : tie.Need-cast-result
 cast-result c = search needs

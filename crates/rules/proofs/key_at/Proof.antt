@@ -9,8 +9,6 @@ use Rattle.transaction.specs.Transaction.{writesOf, noWrite}
 use Rattle.rules.proofs.Places.{size, at}
 use Rattle.rules.proofs.key_at.Statement.{statement}
 use Rattle.rules.proofs.key_at.Tie as tie
-use Rattle.rules.proofs.key_at.Reads as reads
-use Rattle.rules.proofs.key_at.Lts as lts
 
 writes-in-requires : tie.Need-writes-in-requires
 writes-in-requires c κs = search needs

@@ -10,11 +10,6 @@ use Rattle.rules.specs.Tests.{latest}
 use Rattle.rules.proofs.Verdict.{latest-more, latest-over}
 use Rattle.rules.proofs.latest.Statement.{statement}
 use Rattle.rules.proofs.latest.Tie as tie
-use Rattle.rules.proofs.latest.Reads as reads
-use Rattle.rules.proofs.latest.Lts as lts
-use Rattle.rules.proofs.later.Reads as later-reads
-use Rattle.rules.proofs.read_at.Reads as read-at-reads
-use Rattle.rules.proofs.reads_in.Reads as reads-in-reads
 
 abbrev Inv-loop : tie.InvT-loop
 Inv-loop t end last₀ i₀ last i = (end ≡ length (readsOf t)) × (max last (latest (drop i (readsOf t))) ≡ latest (readsOf t))

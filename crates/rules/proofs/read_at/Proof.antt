@@ -8,8 +8,6 @@ use Rattle.transaction.specs.Transaction.{readsOf, noMark}
 use Rattle.rules.proofs.Places.{size, at}
 use Rattle.rules.proofs.read_at.Statement.{statement}
 use Rattle.rules.proofs.read_at.Tie as tie
-use Rattle.rules.proofs.read_at.Reads as reads
-use Rattle.rules.proofs.read_at.Lts as lts
 
 reads-in-requires : tie.Need-reads-in-requires
 reads-in-requires c κs = search needs
