@@ -1,7 +1,7 @@
 -- A walk over the log in its columns: what one version more tells of the newest, of a look-up, of a count and of a commit's versions.
 use Prim.Native.Nat.{ℕ, zero, suc, _+_, _-_, _≤_, _<_}
 use native.Mathlib.Omega.{arith}
-use mathlib.Core.Path.{_≡_, refl, sym, _∙_}
+use mathlib.Core.Path.{_≡_}
 use mathlib.Core.Bool.{Bool, true, false, cond}
 use mathlib.Core.List.{List}
 use lib.Dec.{eqb}
@@ -12,7 +12,7 @@ use Rattle.units.specs.declared.Version.{Version}
 use Rattle.units.specs.declared.Found.{Found}
 use Rattle.units.specs.declared.Found.the-variants.{At, Absent}
 use Rattle.lists.specs.Lists.{count}
-use Rattle.model.specs.Log.{ofKey, versionOf, startVersion, newest, logged, versions, madeAt}
+use Rattle.model.specs.Log.{ofKey, versionOf, startVersion, newest, logged, versions}
 use Rattle.columns.specs.Columns.{entryAt, logOf}
 use Rattle.columns.proofs.Log.{log-back, log-more}
 use Rattle.versions.specs.Append.{hit}

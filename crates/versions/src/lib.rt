@@ -2,15 +2,14 @@
 // of a commit, and the commit's own appended. Any columns are taken, and a length past the limit counts as the limit.
 ghost use mathlib.Core.Path.{_≡_};
 ghost use mathlib.Core.List.{List, []};
-ghost use Prim.Native.Nat.{ℕ, suc, _+_, _≤_, _<_, min};
+ghost use Prim.Native.Nat.{ℕ, _+_, _≤_, _<_};
 ghost use lib.IntN.{ℤ};
-ghost use lib.ListN.{getD, set};
 ghost use lib.ListN as lists;
 ghost use Rattle.transaction.specs.Transaction.{writesOf};
 ghost use Rattle.model.specs.Log.{Entry, next, versionOf, startVersion, newest, lookUp, madeAt, versions, installed};
 ghost use Rattle.columns.specs.Columns.{used, logOf, entryAt, appended, laid};
 ghost use Rattle.versions.specs.Batch.{batchOf, added, itemOf};
-ghost use Rattle.versions.specs.Append.{columns, logIn, stored, hit, Sized};
+ghost use Rattle.versions.specs.Append.{columns, stored, hit, Sized};
 use columns::in_use;
 use transaction::Transaction;
 use transaction::Write;
@@ -59,12 +58,12 @@ pub fn look_up(
     if wanted == 0 {
         return Found::At(start_version());
     }
-    let mut i = in_use(length);
-    while 0 < i {
-        i -= 1;
-        if keys[i] == key {
-            if ordinals[i] == wanted {
-                return Found::At(version_at(ordinals, stamps, values, i));
+    let mut at = in_use(length);
+    while 0 < at {
+        at -= 1;
+        if keys[at] == key {
+            if ordinals[at] == wanted {
+                return Found::At(version_at(ordinals, stamps, values, at));
             }
         }
     }
@@ -113,6 +112,7 @@ pub fn install(
     ensures reply { λ r. ⌜ r ≡ used (used length + lists.length (writesOf t)) ⌝ }
     ensures log { λ r. ⌜ (used length + lists.length (writesOf t) ≤ 4096 → logOf (now (keys .exit)) (now (ordinals .exit)) (now (stamps .exit)) (now (values .exit)) r ≡ installed (logOf (now (keys .entry)) (now (ordinals .entry)) (now (stamps .entry)) (now (values .entry)) (used length)) (stamp .0) (writesOf t)) ⌝ }
 {
+    sized(keys, ordinals, stamps, values);
     let end = written_in(t);
     let mut at = in_use(length);
     let mut i = 0;
@@ -137,8 +137,8 @@ fn append(
     ensures reply { λ r. ⌜ r ≡ used (at + 1) ⌝ }
 {
     sized(keys, ordinals, stamps, values);
-    let ordinal = count_versions(keys, at, w.key) + 1;
     if at < limits::LOG {
+        let ordinal = count_versions(keys, at, w.key) + 1;
         let value = w.value;
         keys[at] = w.key;
         ordinals[at] = ordinal;
@@ -190,8 +190,9 @@ fn hit(k: u8, key: u8) -> u32
     if k == key { 1 } else { 0 }
 }
 
+// How many keys a transaction has written, whatever its count says.
 fn written_in(t: Transaction) -> usize
-    ensures { λ r. ⌜ r ≡ min (t .written) 16 ⌝ }
+    ensures { λ r. ⌜ (r ≡ lists.length (writesOf t)) × (r ≤ 16) ⌝ }
 {
     let n = t.written;
     if n < limits::WRITES {

@@ -4,8 +4,6 @@ use Rattle.versions.specs.Batch.{added}
 use borrow.Author.Needs.{needs}
 use Rattle.versions.proofs.add.Statement.{statement}
 use Rattle.versions.proofs.add.Tie as tie
-use Rattle.versions.proofs.add.Reads as reads
-use Rattle.versions.proofs.add.Lts as lts
 
 mul-item : tie.Need-mul-item
 mul-item c = search needs

@@ -1,62 +1,67 @@
+-- `append` meets its contract: there is room for the version, or nothing is stored.
+use native.Mathlib.Omega.{arith}
+use native.Mathlib.Numerals.{add-one}
+use mathlib.Core.Path.{sym}
+use mathlib.Core.List.{[]}
+use denote.Ref.{now}
+use mir.Facts.{toZ-ofZ}
+use mir.Syntax.{w32}
+use mir.Val.{SFits}
+use Rattle.columns.specs.Columns.{used}
+use Rattle.versions.proofs.Walk.{versions-le}
+use Rattle.versions.proofs.Laying.{stored-out}
 use borrow.Author.Needs.{needs}
 use Rattle.versions.proofs.append.Statement.{statement}
 use Rattle.versions.proofs.append.Tie as tie
-use Rattle.versions.proofs.append.Reads as reads
-use Rattle.versions.proofs.append.Lts as lts
-use Rattle.versions.proofs.count_versions.Reads as count-versions-reads
-use Rattle.versions.proofs.sized.Reads as sized-reads
 
--- src/lib.rt:139:5
 sized-requires : tie.Need-sized-requires
 sized-requires c κs = search needs
 
--- src/lib.rt:140:19
 count-versions-requires : tie.Need-count-versions-requires
 count-versions-requires c κs = search needs
 
--- src/lib.rt:140:19
 add-ordinal : tie.Need-add-ordinal
-add-ordinal c = ?
+add-ordinal c =
+    let a = c .before .before .before .before .before .before .before .before .args in
+    omega (arith, c .count-versions .ensures [] [] [], versions-le (now (a .keys)) [] [] [] (a .w .key) (used (a .at)))
 
--- src/lib.rt:143:9
 element-write-keys : tie.Need-element-write-keys
 element-write-keys c = search needs
 
--- src/lib.rt:144:9
 mul-ordinals : tie.Need-mul-ordinals
 mul-ordinals c = search needs
 
--- src/lib.rt:144:9
 element-write-ordinals : tie.Need-element-write-ordinals
 element-write-ordinals c = search needs
 
--- src/lib.rt:145:9
 mul-stamps : tie.Need-mul-stamps
 mul-stamps c = search needs
 
--- src/lib.rt:145:9
 element-write-stamps : tie.Need-element-write-stamps
 element-write-stamps c = search needs
 
--- src/lib.rt:146:9
 mul-value : tie.Need-mul-value
 mul-value c = search needs
 
--- src/lib.rt:146:9
 element-set-from-value : tie.Need-element-set-from-value
 element-set-from-value c = search needs
 
--- src/lib.rt:147:16
 add-result : tie.Need-add-result
 add-result c = search needs
 
--- src/lib.rt:147:9
 returns : tie.Need-returns
-returns c = ?
+returns c =
+    let a = c .before .before .before .before .before .before .before .before .before .args in
+    let f : SFits w32 (a .w .value) = search needs in (
+      rw
+          (add-one, c .before .count-versions .ensures (now (a .ordinals)) (now (a .stamps)) (now (a .values)), toZ-ofZ f),
+      omega arith,
+    )
 
--- src/lib.rt:127:1
 returns-2 : tie.Need-returns-2
-returns-2 c = ?
+returns-2 c =
+    let a = c .before .before .before .before .before .before .args in
+    (sym (stored-out _ (c .before .sized .ensures) (a .at) _ (c .if1 .left)), omega arith)
 
 pub append-spec : {M : Type 1} → statement M
 append-spec =

@@ -1,9 +1,9 @@
 use denote.Ref.{now}
 use lib.ListN.{getD}
 -- `count_versions` meets its contract: n is the count over the places passed.
-use Prim.Native.Nat.{ℕ, _+_, _-_, _≤_}
+use Prim.Native.Nat.{ℕ, _-_, _≤_}
 use native.Mathlib.Omega.{arith}
-use mathlib.Core.Path.{_≡_, refl, sym, _∙_}
+use mathlib.Core.Path.{_≡_, refl, _∙_}
 use mathlib.Core.List.{List}
 use lib.IntN.{ℤ}
 use borrow.Author.Needs.{needs}
@@ -13,19 +13,16 @@ use Rattle.columns.specs.Columns.{used, logOf}
 use Rattle.versions.proofs.Walk.{versions-more, hit-le}
 use Rattle.versions.proofs.count_versions.Statement.{statement}
 use Rattle.versions.proofs.count_versions.Tie as tie
-use Rattle.versions.proofs.count_versions.Reads as reads
-use Rattle.versions.proofs.count_versions.Lts as lts
-use Rattle.columns.proofs.in_use.Reads as in-use-reads
-use Rattle.versions.proofs.hit.Reads as hit-reads
 
 abbrev Inv-loop : tie.InvT-loop
-Inv-loop keys length key end n₀ i₀ n i = (i ≤ end) × ((end ≡ used length) × ((n ≤ i) × ((o s : List ℕ) (v : List ℤ) → n ≡ versions (logOf keys o s v i) key)))
+Inv-loop keys length key end n₀ i₀ n i =
+    (i ≤ end) × ((end ≡ used length) × ((n ≤ i) × ((o s : List ℕ) (v : List ℤ) → n ≡ versions (logOf keys o s v i) key)))
 
 abbrev μ-loop : tie.MeasureT-loop
 μ-loop keys length key end n₀ i₀ n i = end - i
 
 small : (c : tie.After-hit Inv-loop μ-loop) → c .hit .result ≤ 1
-small c = 
+small c =
     let d = c .before .before .before in
     rw (c .hit .ensures) (hit-le (getD (now (d .before .before .args .keys)) (d .loop .i) 0) (d .before .before .args .key))
 
@@ -52,10 +49,14 @@ loop-less : tie.Need-loop-less Inv-loop μ-loop
 loop-less c = omega arith
 
 loop-again : tie.Need-loop-again Inv-loop μ-loop
-loop-again c = let d = c .before .before .before in (omega arith, (d .loop .inv .1 .0, (omega (arith, small c), λ o s v. rw (c .hit .ensures, versions-more, d .loop .inv .1 .1 .1 o s v))))
+loop-again c =
+    let d = c .before .before .before in
+    (omega arith, (d .loop .inv .1 .0, (omega (arith, small c), λ o s v. rw (c .hit .ensures, versions-more, d .loop .inv .1 .1 .1 o s v))))
 
 returns : tie.Need-returns Inv-loop μ-loop
-returns c = λ o s v. let e : c .before .loop .i ≡ used (c .before .before .before .args .length) = omega arith in c .before .loop .inv .1 .1 .1 o s v ∙ rw e
+returns c = λ o s v.
+    let e : c .before .loop .i ≡ used (c .before .before .before .args .length) = omega arith in
+    c .before .loop .inv .1 .1 .1 o s v ∙ rw e
 
 pub count-versions-spec : {M : Type 1} → statement M
 count-versions-spec =

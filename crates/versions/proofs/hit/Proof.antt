@@ -2,8 +2,6 @@
 use borrow.Author.Tests.{eq-eqb, ne-eqb}
 use Rattle.versions.proofs.hit.Statement.{statement}
 use Rattle.versions.proofs.hit.Tie as tie
-use Rattle.versions.proofs.hit.Reads as reads
-use Rattle.versions.proofs.hit.Lts as lts
 
 returns : tie.Need-returns
 returns c = simp (eq-eqb _ _ (c .if1 .taken))

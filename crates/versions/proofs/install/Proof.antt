@@ -1,58 +1,91 @@
+-- `install` meets its contract: the writes still to be laid give the columns and the length that all give.
+use Prim.Native.Nat.{_-_, _≤_}
+use native.Mathlib.Omega.{arith}
+use mathlib.Core.Path.{_≡_, ap}
+use lib.ListN.{drop, length-drop}
+use lib.ListN as lists
+use borrow.Author.Needs.{needs}
+use Rattle.transaction.specs.Transaction.{writesOf}
+use Rattle.columns.specs.Columns.{used}
+use Rattle.versions.specs.Append.{Columns, columns, Sized}
+use Rattle.versions.proofs.Laying.{Left, left-all, left-next, left-none}
 use Rattle.versions.proofs.install.Statement.{statement}
 use Rattle.versions.proofs.install.Tie as tie
-use Rattle.versions.proofs.install.Reads as reads
-use Rattle.versions.proofs.install.Lts as lts
-use Rattle.columns.proofs.in_use.Reads as in-use-reads
-use Rattle.versions.proofs.append.Reads as append-reads
-use Rattle.versions.proofs.written_in.Reads as written-in-reads
 
 abbrev Inv-loop : tie.InvT-loop
 Inv-loop keys₀ ordinals₀ stamps₀ values₀ length stamp t end at₀ i₀ keys ordinals stamps values at i =
-    ?
+    ((end ≡ lists.length (writesOf t)) × (end ≤ 16))
+    × ((i ≤ end)
+    × (Sized (columns keys₀ ordinals₀ stamps₀ values₀)
+    × Left (stamp .0) (columns keys ordinals stamps values) at (drop i (writesOf t)) (columns keys₀ ordinals₀ stamps₀ values₀) (used length) (writesOf t)))
 
 abbrev μ-loop : tie.MeasureT-loop
 μ-loop keys₀ ordinals₀ stamps₀ values₀ length stamp t end at₀ i₀ keys ordinals stamps values at i =
-    ?
+    end - i
 
--- src/lib.rt:116:9
+sized-requires : tie.Need-sized-requires Inv-loop μ-loop
+sized-requires c κs = search needs
+
 written-in-requires : tie.Need-written-in-requires Inv-loop μ-loop
-written-in-requires c κs = ?
+written-in-requires c κs = search needs
 
--- src/lib.rt:117:9
 in-use-requires : tie.Need-in-use-requires Inv-loop μ-loop
-in-use-requires c κs = ?
+in-use-requires c κs = search needs
 
--- src/lib.rt:119:5
 loop-holds : tie.Need-loop-holds Inv-loop μ-loop
-loop-holds c = ?
+loop-holds c =
+    let z = c .before .before .sized .ensures in
+    (c .before .written-in .ensures, (omega arith, (z, rw (c .in-use .ensures) (left-all _ _ _ _ z (omega arith)))))
 
--- src/lib.rt:120:64
 mul-append : tie.Need-mul-append Inv-loop μ-loop
-mul-append c = ?
+mul-append c = omega arith
 
--- src/lib.rt:120:64
 element-copy-out-append : tie.Need-element-copy-out-append Inv-loop μ-loop
-element-copy-out-append c = ?
+element-copy-out-append c = omega arith
 
--- src/lib.rt:120:9
 append-requires : tie.Need-append-requires Inv-loop μ-loop
-append-requires c κs = ?
+append-requires c κs = search needs
 
--- src/lib.rt:121:9
 add-i : tie.Need-add-i Inv-loop μ-loop
-add-i c = ?
+add-i c = omega arith
 
--- src/lib.rt:119:5
 loop-less : tie.Need-loop-less Inv-loop μ-loop
-loop-less c = ?
+loop-less c = omega arith
 
--- src/lib.rt:119:5
 loop-again : tie.Need-loop-again Inv-loop μ-loop
-loop-again c = ?
+loop-again c =
+    let d = c .before .before .before .before .before .before .before in
+    let t = d .before .before .before .before .before .before .before .before .args .t7 in
+    let z = d .loop .inv in (
+      z .0,
+      (
+        omega arith,
+        (
+          z .1 .1 .0,
+          left-next _ _ _ _ _ _ (d .loop .i) t (omega arith) (z .1 .1 .1) _ _ (c .append .ensures .0) (c .append .ensures .1),
+        ),
+      ),
+    )
 
--- src/lib.rt:100:1
 returns : tie.Need-returns Inv-loop μ-loop
-returns c = ?
+returns c =
+    let z = c .before .loop .inv in
+    let l = left-none _ _ _ _ _ _ (z .1 .1 .0) _ (simp length-drop (omega arith)) (z .1 .1 .1) in (
+      ap (λ (d : Columns). d .keys) (l .columns),
+      (
+        ap (λ (d : Columns). d .ordinals) (l .columns),
+        (
+          ap (λ (d : Columns). d .stamps) (l .columns),
+          (
+            ap (λ (d : Columns). d .values) (l .columns),
+            (
+              l .reply,
+              l .log,
+            ),
+          ),
+        ),
+      ),
+    )
 
 pub install-spec : {M : Type 1} → statement M
 install-spec =
@@ -60,6 +93,7 @@ install-spec =
     (tie.spec
     Inv-loop
     μ-loop
+    sized-requires
     written-in-requires
     in-use-requires
     loop-holds

@@ -1,61 +1,69 @@
+-- `made_at` meets its contract: the batch has the commit's versions among the places passed.
+use Prim.Native.Nat.{_-_, _≤_}
+use native.Mathlib.Omega.{arith}
+use mathlib.Core.Path.{_≡_, _∙_}
+use mathlib.Core.Logic.{⊎-elim}
+use borrow.Author.Needs.{needs}
+use Rattle.model.specs.Log.{madeAt}
+use Rattle.columns.specs.Columns.{used, logOf}
+use Rattle.versions.specs.Batch.{batchOf}
+use Rattle.versions.proofs.Gathering.{made-hit, made-miss}
 use Rattle.versions.proofs.made_at.Statement.{statement}
 use Rattle.versions.proofs.made_at.Tie as tie
-use Rattle.versions.proofs.made_at.Reads as reads
-use Rattle.versions.proofs.made_at.Lts as lts
-use Rattle.columns.proofs.in_use.Reads as in-use-reads
-use Rattle.versions.proofs.add.Reads as add-reads
-use Rattle.versions.proofs.item_at.Reads as item-at-reads
-use Rattle.versions.proofs.no_items.Reads as no-items-reads
 
 abbrev Inv-loop : tie.InvT-loop
-Inv-loop keys ordinals stamps values length wanted end batch₀ i₀ batch i = ?
+Inv-loop keys ordinals stamps values length wanted end batch₀ i₀ batch i =
+    (i ≤ end) × ((end ≡ used length) × (batch ≡ batchOf (madeAt (logOf keys ordinals stamps values i) wanted)))
 
 abbrev μ-loop : tie.MeasureT-loop
-μ-loop keys ordinals stamps values length wanted end batch₀ i₀ batch i = ?
+μ-loop keys ordinals stamps values length wanted end batch₀ i₀ batch i = end - i
 
--- src/lib.rt:86:9
 in-use-requires : tie.Need-in-use-requires Inv-loop μ-loop
-in-use-requires c κs = ?
+in-use-requires c κs = search needs
 
--- src/lib.rt:87:9
 no-items-requires : tie.Need-no-items-requires Inv-loop μ-loop
-no-items-requires c κs = ?
+no-items-requires c κs = search needs
 
--- src/lib.rt:89:5
 loop-holds : tie.Need-loop-holds Inv-loop μ-loop
-loop-holds c = ?
+unfolding madeAt logOf
+loop-holds c = (omega arith, (c .before .in-use .ensures, c .no-items .ensures))
 
--- src/lib.rt:90:12
 mul-if1 : tie.Need-mul-if1 Inv-loop μ-loop
-mul-if1 c = ?
+mul-if1 c = omega arith
 
--- src/lib.rt:90:12
 element-copy-out-if1 : tie.Need-element-copy-out-if1 Inv-loop μ-loop
-element-copy-out-if1 c = ?
+element-copy-out-if1 c = omega arith
 
--- src/lib.rt:91:32
 item-at-requires : tie.Need-item-at-requires Inv-loop μ-loop
-item-at-requires c κs = ?
+item-at-requires c κs = omega arith
 
--- src/lib.rt:91:13
 add-requires : tie.Need-add-requires Inv-loop μ-loop
-add-requires c κs = ?
+add-requires c κs = search needs
 
--- src/lib.rt:93:9
 add-i : tie.Need-add-i Inv-loop μ-loop
-add-i c = ?
+add-i c = omega arith
 
--- src/lib.rt:89:5
 loop-less : tie.Need-loop-less Inv-loop μ-loop
-loop-less c = ?
+loop-less c = omega arith
 
--- src/lib.rt:89:5
 loop-again : tie.Need-loop-again Inv-loop μ-loop
-loop-again c = ?
+loop-again c =
+    let d = c .before .before .before in
+    let z = d .loop .inv in (
+      omega arith,
+      (
+        z .1 .0,
+        ⊎-elim
+            (λ w. made-hit _ _ _ _ _ _ _ (z .1 .1) _ _ (w .0 .taken) (w .1 .ensures) (w .3 ∙ w .2 .ensures))
+            (λ w. w .1 ∙ made-miss _ _ _ _ _ _ _ (z .1 .1) (w .0 .left))
+            (c .if1 .came),
+      ),
+    )
 
--- src/lib.rt:75:1
 returns : tie.Need-returns Inv-loop μ-loop
-returns c = ?
+returns c =
+    let e : c .before .loop .i ≡ used (c .before .before .before .before .args .length) = omega arith in
+    c .before .loop .inv .1 .1 ∙ rw e
 
 pub made-at-spec : {M : Type 1} → statement M
 made-at-spec =

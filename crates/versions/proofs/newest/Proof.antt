@@ -1,7 +1,7 @@
 -- `newest` meets its contract: the versions not yet looked at have the key's newest.
-use Prim.Native.Nat.{ℕ, _-_, _≤_}
+use Prim.Native.Nat.{_≤_}
 use native.Mathlib.Omega.{arith}
-use mathlib.Core.Path.{_≡_, refl, sym, _∙_, ap}
+use mathlib.Core.Path.{_≡_, _∙_}
 use denote.Ref.{now}
 use borrow.Author.Needs.{needs}
 use Rattle.model.specs.Log.{newest}
@@ -9,14 +9,11 @@ use Rattle.columns.specs.Columns.{used, logOf}
 use Rattle.versions.proofs.Walk.{newest-over, newest-hit, newest-miss}
 use Rattle.versions.proofs.newest.Statement.{statement}
 use Rattle.versions.proofs.newest.Tie as tie
-use Rattle.versions.proofs.newest.Reads as reads
-use Rattle.versions.proofs.newest.Lts as lts
-use Rattle.columns.proofs.in_use.Reads as in-use-reads
-use Rattle.versions.proofs.start_version.Reads as start-version-reads
-use Rattle.versions.proofs.version_at.Reads as version-at-reads
 
 abbrev Inv-loop : tie.InvT-loop
-Inv-loop keys ordinals stamps values length key i₀ i = (i ≤ used length) × (newest (logOf keys ordinals stamps values i) key ≡ newest (logOf keys ordinals stamps values (used length)) key)
+Inv-loop keys ordinals stamps values length key i₀ i =
+    (i ≤ used length)
+    × (newest (logOf keys ordinals stamps values i) key ≡ newest (logOf keys ordinals stamps values (used length)) key)
 
 abbrev μ-loop : tie.MeasureT-loop
 μ-loop keys ordinals stamps values length key i₀ i = i
@@ -37,13 +34,18 @@ version-at-requires : tie.Need-version-at-requires Inv-loop μ-loop
 version-at-requires c κs = omega arith
 
 returns : tie.Need-returns Inv-loop μ-loop
-returns c = let d = c .before .before .before .before in c .version-at .ensures ∙ newest-hit (now (d .before .before .args .keys)) _ _ _ _ _ _ (d .loop .inv .1) (omega arith) (c .before .if1 .taken)
+returns c =
+    let d = c .before .before .before .before in
+    let k = now (d .before .before .args .keys) in
+    c .version-at .ensures ∙ newest-hit k _ _ _ _ _ _ (d .loop .inv .1) (omega arith) (c .before .if1 .taken)
 
 loop-less : tie.Need-loop-less Inv-loop μ-loop
 loop-less c = omega arith
 
 loop-again : tie.Need-loop-again Inv-loop μ-loop
-loop-again c = let d = c .before .before .before in (omega arith, newest-miss _ _ _ _ _ _ _ (d .loop .inv .1) (omega arith) (c .if1 .left))
+loop-again c =
+    let d = c .before .before .before in
+    (omega arith, newest-miss _ _ _ _ _ _ _ (d .loop .inv .1) (omega arith) (c .if1 .left))
 
 start-version-requires : tie.Need-start-version-requires Inv-loop μ-loop
 start-version-requires c κs = search needs

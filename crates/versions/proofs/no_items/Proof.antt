@@ -3,8 +3,6 @@ use mathlib.Core.Path.{refl}
 use Rattle.versions.specs.Batch.{batchOf}
 use Rattle.versions.proofs.no_items.Statement.{statement}
 use Rattle.versions.proofs.no_items.Tie as tie
-use Rattle.versions.proofs.no_items.Reads as reads
-use Rattle.versions.proofs.no_items.Lts as lts
 
 returns : tie.Need-returns
 unfolding batchOf
