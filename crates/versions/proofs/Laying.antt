@@ -7,16 +7,17 @@ use mathlib.Core.Path.{_≡_, refl, sym, _∙_, ap, subst}
 use mathlib.Core.Bool.{Bool, true, false}
 use mathlib.Core.List.{List, [], _∷_}
 use lib.Dec.{ltb}
-use lib.ListN.{length, getD, drop, length-set, length-take}
+use lib.IntN.{ℤ}
+use lib.ListN.{length, getD, set, drop, length-set, length-take}
 use lib.Seq.{set-out, drop-cons, getD-take}
 use borrow.Author.Tests.{ltb-true, ltb-false}
 use Rattle.transaction.specs.declared.Write.{Write}
 use Rattle.transaction.specs.declared.Transaction.{Transaction}
 use Rattle.transaction.specs.Transaction.{writesOf, noWrite}
-use Rattle.model.specs.Log.{Entry, next, installed}
+use Rattle.model.specs.Log.{Entry, next, versions, installed}
 use Rattle.columns.specs.Columns.{used, appended}
 use Rattle.columns.proofs.Log.{log-laid}
-use Rattle.versions.specs.Append.{Columns, logIn, stored, laidIn, Sized}
+use Rattle.versions.specs.Append.{Columns, columns, logIn, stored, laidIn, Sized}
 
 module _ (c : Columns) (z : Sized c) where
   pub sized-stored : (i : ℕ) (e : Entry) → Sized (stored c i e)
@@ -39,6 +40,12 @@ module _ (c : Columns) (z : Sized c) where
   log-stored i e h =
       log-laid _ _ _ _ _ _ _ _ _ (omega (arith, z .keys)) (omega (arith, z .ordinals)) (omega (arith, z .stamps)) (omega (arith, z .values))
 
+-- a write stored with its key's next ordinal
+pub next-stored : (c : Columns) (i stamp o : ℕ) (v : ℤ) (w : Write) (l : List Entry) → o ≡ suc (versions l (w .key)) → v ≡ w .value
+    → columns (set (c .keys) i (w .key)) (set (c .ordinals) i o) (set (c .stamps) i stamp) (set (c .values) i v) ≡ stored c i (next l stamp w)
+next-stored c i stamp o v w l e f = rw (e, f)
+
+-- past the end nothing is stored
 pub laid-out : (c : Columns) → Sized c → (i : ℕ) (es : List Entry) → 4096 ≤ i → laidIn c i es ≡ c
 laid-out c z i [] h = refl
 laid-out c z i (e ∷ es) h = ap (λ (d : Columns). laidIn d (suc i) es) (stored-out c z i e h) ∙ laid-out c z (suc i) es (omega arith)

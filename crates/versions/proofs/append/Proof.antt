@@ -1,6 +1,6 @@
 -- `append` meets its contract: there is room for the version, or nothing is stored.
+use Prim.Native.Nat.{_+_}
 use native.Mathlib.Omega.{arith}
-use native.Mathlib.Numerals.{add-one}
 use mathlib.Core.Path.{sym}
 use mathlib.Core.List.{[]}
 use denote.Ref.{now}
@@ -8,8 +8,9 @@ use mir.Facts.{toZ-ofZ}
 use mir.Syntax.{w32}
 use mir.Val.{SFits}
 use Rattle.columns.specs.Columns.{used}
+use Rattle.versions.specs.Append.{columns, logIn}
 use Rattle.versions.proofs.Walk.{versions-le}
-use Rattle.versions.proofs.Laying.{stored-out}
+use Rattle.versions.proofs.Laying.{stored-out, next-stored}
 use borrow.Author.Needs.{needs}
 use Rattle.versions.proofs.append.Statement.{statement}
 use Rattle.versions.proofs.append.Tie as tie
@@ -52,11 +53,10 @@ add-result c = search needs
 returns : tie.Need-returns
 returns c =
     let a = c .before .before .before .before .before .before .before .before .before .args in
-    let f : SFits w32 (a .w .value) = search needs in (
-      rw
-          (add-one, c .before .count-versions .ensures (now (a .ordinals)) (now (a .stamps)) (now (a .values)), toZ-ofZ f),
-      omega arith,
-    )
+    let k = columns (now (a .keys)) (now (a .ordinals)) (now (a .stamps)) (now (a .values)) in
+    let n = c .before .count-versions in
+    let f : SFits w32 (a .w .value) = search needs in
+    (next-stored k (a .at) (a .stamp .0) (n .result + 1) _ (a .w) (logIn k (used (a .at))) (omega (arith, n .ensures (k .ordinals) (k .stamps) (k .values))) (toZ-ofZ f), omega arith)
 
 returns-2 : tie.Need-returns-2
 returns-2 c =
