@@ -27,11 +27,12 @@ module _ (k o s : List ℕ) (v : List ℤ) where
   length-log zero = refl
   length-log (suc n) = ap suc (length-log n)
 
--- what is stored at a place past n leaves the first n
-pub getD-behind : {A : Type 0} (l : List A) (n i : ℕ) (x d : A) → i < n → getD (set l n x) i d ≡ getD l i d
-getD-behind l n i x d h = getD-set-other l n i x d (λ e. omega arith)
+-- what is stored at a place leaves those before it
+pub getD-behind : {A : Type 0} (l : List A) (m i : ℕ) (x d : A) → i < m → getD (set l m x) i d ≡ getD l i d
+getD-behind l m i x d h = getD-set-other l m i x d (λ e. omega arith)
 
 module _ (k o s : List ℕ) (v : List ℤ) (m x y z : ℕ) (w : ℤ) where
+  -- a version laid behind the log leaves it
   pub log-behind : (n : ℕ) → n ≤ m → logOf (set k m x) (set o m y) (set s m z) (set v m w) n ≡ logOf k o s v n
   unfolding logOf
   log-behind zero h = refl
@@ -39,7 +40,7 @@ module _ (k o s : List ℕ) (v : List ℤ) (m x y z : ℕ) (w : ℤ) where
       rw
       (getD-behind k m n x 0 h, getD-behind o m n y 0 h, getD-behind s m n z 0 h, getD-behind v m n w (pos 0) h, log-behind n (omega arith))
 
-  -- a version laid behind the log is its newest
+  -- and it is the newest of the log with one place more
   pub log-laid : m < length k → m < length o → m < length s → m < length v
       → logOf (set k m x) (set o m y) (set s m z) (set v m w) (suc m) ≡ record { key = x; ordinal = y; stamp = z; value = w } ∷ logOf k o s v m
   unfolding logOf

@@ -45,7 +45,7 @@ pub next-stored : (c : Columns) (i stamp o : ℕ) (v : ℤ) (w : Write) (l : Lis
     → columns (set (c .keys) i (w .key)) (set (c .ordinals) i o) (set (c .stamps) i stamp) (set (c .values) i v) ≡ stored c i (next l stamp w)
 next-stored c i stamp o v w l e f = rw (e, f)
 
--- past the end nothing is stored
+-- past the end nothing is laid
 pub laid-out : (c : Columns) → Sized c → (i : ℕ) (es : List Entry) → 4096 ≤ i → laidIn c i es ≡ c
 laid-out c z i [] h = refl
 laid-out c z i (e ∷ es) h = ap (λ (d : Columns). laidIn d (suc i) es) (stored-out c z i e h) ∙ laid-out c z (suc i) es (omega arith)

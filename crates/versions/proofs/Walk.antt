@@ -1,4 +1,4 @@
--- A walk over the log in its columns: what one version more tells of the newest, of a look-up, of a count and of a commit's versions.
+-- A walk over the log in its columns: what one version more tells of the newest, of a look-up and of a count.
 use Prim.Native.Nat.{ℕ, zero, suc, _+_, _-_, _≤_, _<_}
 use native.Mathlib.Omega.{arith}
 use mathlib.Core.Path.{_≡_}

@@ -149,7 +149,7 @@ fn append(
     limits::LOG
 }
 
-// The columns have the places of the log: a fact for the proofs, no code.
+// That the columns have the places of the log, for the proofs: lent as a slice, a column's length is known. It is no code.
 fn sized(
     keys: &[u8; limits::LOG],
     ordinals: &[u32; limits::LOG],
@@ -202,6 +202,7 @@ fn written_in(t: Transaction) -> usize
     }
 }
 
+// The version that stands at a place.
 fn version_at(
     ordinals: &[u32; limits::LOG],
     stamps: &[u32; limits::LOG],
@@ -219,6 +220,7 @@ fn version_at(
     }
 }
 
+// The version that stands at a place, as a message carries it.
 fn item_at(
     keys: &[u8; limits::LOG],
     ordinals: &[u32; limits::LOG],
@@ -236,6 +238,7 @@ fn item_at(
     }
 }
 
+// "0 for the start version (value 0, stamp 0)".
 fn start_version() -> Version
     ensures { λ r. ⌜ r ≡ startVersion ⌝ }
 {

@@ -1,6 +1,6 @@
+-- `count_versions` meets its contract: n is the count over the places passed.
 use denote.Ref.{now}
 use lib.ListN.{getD}
--- `count_versions` meets its contract: n is the count over the places passed.
 use Prim.Native.Nat.{ℕ, _-_, _≤_}
 use native.Mathlib.Omega.{arith}
 use mathlib.Core.Path.{_≡_, refl, _∙_}
