@@ -1,0 +1,15 @@
+use borrow.Author.Needs.{needs}
+use Rattle.master.proofs.recorded.Statement.{statement}
+use Rattle.master.proofs.recorded.Tie as tie
+
+record-requires : tie.Need-record-requires
+record-requires c κs = search needs
+
+with-requires : tie.Need-with-requires
+with-requires c κs = search needs
+
+returns : tie.Need-returns
+returns c = ?
+
+pub recorded-spec : {M : Type 1} → statement M
+recorded-spec = tie.close (tie.spec record-requires with-requires returns)
