@@ -1,0 +1,53 @@
+use borrow.Author.Needs.{needs}
+use Rattle.decimal.proofs.write.put_natural.Statement.{statement}
+use Rattle.decimal.proofs.write.put_natural.Tie as tie
+use Rattle.decimal.proofs.write.put_natural.Reads as reads
+use Rattle.decimal.proofs.write.put_natural.Lts as lts
+use Rattle.decimal.proofs.write.has_room.Reads as has-room-reads
+use Rattle.decimal.proofs.write.spell.Reads as spell-reads
+use Rattle.decimal.proofs.write.width.Reads as width-reads
+
+-- src/write.rt:44:9
+width-requires : tie.Need-width-requires
+width-requires c κs = search needs
+
+-- src/write.rt:45:9
+has-room-requires : tie.Need-has-room-requires
+has-room-requires c κs = search needs
+
+-- src/write.rt:46:9
+returns : tie.Need-returns
+returns c = ?
+
+-- src/write.rt:48:20
+add-spell : tie.Need-add-spell
+add-spell c = ?
+
+-- src/write.rt:48:5
+spell-requires : tie.Need-spell-requires
+spell-requires c κs = ?
+
+-- src/write.rt:49:15
+add-t6 : tie.Need-add-t6
+add-t6 c = ?
+
+-- src/write.rt:40:1
+same-length : tie.Need-same-length
+same-length c = search needs
+
+-- src/write.rt:40:1
+returns-2 : tie.Need-returns-2
+returns-2 c = ?
+
+pub put-natural-spec : {M : Type 1} → statement M
+put-natural-spec =
+    tie.close
+    (tie.spec
+    width-requires
+    has-room-requires
+    returns
+    add-spell
+    spell-requires
+    add-t6
+    same-length
+    returns-2)
