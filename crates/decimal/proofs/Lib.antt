@@ -3,3 +3,5 @@ pub mod Tests
 pub mod Digits
 pub mod Steps
 pub mod Reading
+pub mod Values
+pub mod Writing

@@ -20,8 +20,8 @@ pub enum Put {
 
 // A signed value, taken apart: Minus(v) is -1 - v.
 enum Sign {
-    Plus(u64),
-    Minus(u64),
+    Plus(u32),
+    Minus(u32),
 }
 
 // One byte, as a separator.
@@ -55,18 +55,17 @@ pub fn put_signed(buf: &mut [u8], at: usize, n: i32) -> Put
     ensures buffer { λ _. ⌜ now (buf .exit) ≡ put (now (buf .entry)) at (plain n) ⌝ }
 {
     match sign_of(n) {
-        Sign::Plus(v) => put_natural(buf, at, v),
+        Sign::Plus(v) => put_natural(buf, at, v as u64),
         Sign::Minus(v) => put_negative(buf, at, v),
     }
 }
 
 // The plain form of -1 - v.
-fn put_negative(buf: &mut [u8], at: usize, v: u64) -> Put
-    requires { ⌜ v < 4294967296 ⌝ }
-    ensures reply { λ r. ⌜ r ≡ wrote (now (buf .entry)) at (45 ∷ decimal (suc v)) ⌝ }
-    ensures buffer { λ _. ⌜ now (buf .exit) ≡ put (now (buf .entry)) at (45 ∷ decimal (suc v)) ⌝ }
+fn put_negative(buf: &mut [u8], at: usize, v: u32) -> Put
+    ensures reply { λ r. ⌜ r ≡ wrote (now (buf .entry)) at (45 ∷ decimal (v + 1)) ⌝ }
+    ensures buffer { λ _. ⌜ now (buf .exit) ≡ put (now (buf .entry)) at (45 ∷ decimal (v + 1)) ⌝ }
 {
-    let n = v + 1;
+    let n = v as u64 + 1;
     let w = 1 + width(n);
     if !has_room(buf.len(), at, w) {
         return Put::Full;
@@ -125,7 +124,7 @@ fn sign_of(n: i32) -> Sign
     ensures { λ r. ⌜ r ≡ signOf n ⌝ }
 {
     if n < 0 {
-        return Sign::Minus((!n) as u64);
+        return Sign::Minus((!n) as u32);
     }
-    Sign::Plus(n as u64)
+    Sign::Plus(n as u32)
 }

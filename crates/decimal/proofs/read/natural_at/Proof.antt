@@ -1,3 +1,5 @@
+-- `decimal::read::natural_at` meets its contract.
+use Rattle.decimal.proofs.Values.{natural-plus, natural-minus, natural-bad}
 use borrow.Author.Needs.{needs}
 use Rattle.decimal.proofs.read.natural_at.Statement.{statement}
 use Rattle.decimal.proofs.read.natural_at.Tie as tie
@@ -23,15 +25,15 @@ enum-told-2 c = search needs
 
 -- src/read.rt:58:1
 returns : tie.Need-returns
-returns c = ?
+returns c = natural-plus _ _ _ _ (c .before .before .before .field-at .ensures) (c .before .v .given .1)
 
 -- src/read.rt:58:1
 returns-2 : tie.Need-returns-2
-returns-2 c = ?
+returns-2 c = natural-minus _ _ _ _ (c .before .before .field-at .ensures) (c .enum-told .given .1)
 
 -- src/read.rt:58:1
 returns-3 : tie.Need-returns-3
-returns-3 c = ?
+returns-3 c = natural-bad _ _ _ _ (c .before .before .field-at .ensures) (c .enum-told2 .given .1)
 
 pub natural-at-spec : {M : Type 1} → statement M
 natural-at-spec =

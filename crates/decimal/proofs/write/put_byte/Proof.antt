@@ -1,3 +1,11 @@
+-- `decimal::write::put_byte` meets its contract.
+use Prim.Native.Nat.{_+_, _≤_, _<_}
+use native.Mathlib.Omega.{arith}
+use mathlib.Core.Path.{sym}
+use mathlib.Core.List.{[], _∷_}
+use denote.Ref.{now}
+use lib.ListN.{length}
+use Rattle.decimal.proofs.Writing.{put-sets, put-full, wrote-room, wrote-full}
 use borrow.Author.Needs.{needs}
 use Rattle.decimal.proofs.write.put_byte.Statement.{statement}
 use Rattle.decimal.proofs.write.put_byte.Tie as tie
@@ -18,11 +26,15 @@ same-length c = search needs
 
 -- src/write.rt:34:9
 returns : tie.Need-returns
-returns c = ?
+returns c =
+    let h : c .before .args .at + 1 ≤ length (now (c .before .args .buf)) = omega arith in
+    (sym (wrote-room _ _ _ h), put-sets _ _ _ h)
 
 -- src/write.rt:28:1
 returns-2 : tie.Need-returns-2
-returns-2 c = ?
+returns-2 c =
+    let h : length (now (c .before .args .buf)) < c .before .args .at + 1 = omega arith in
+    (sym (wrote-full _ _ (c .before .args .b ∷ []) h), sym (put-full _ _ (c .before .args .b ∷ []) h))
 
 pub put-byte-spec : {M : Type 1} → statement M
 put-byte-spec = tie.close (tie.spec slice-write-buf add-t7 same-length returns returns-2)

@@ -1,3 +1,9 @@
+-- `decimal::write::put_signed` meets its contract.
+use mathlib.Core.Path.{ap, _∙_}
+use mir.Facts.{toZ-ofZ}
+use Rattle.decimal.specs.Write.{signOf}
+use Rattle.decimal.proofs.Values.{plain-plus, plain-minus}
+use Rattle.decimal.proofs.Writing.{as-text}
 use borrow.Author.Needs.{needs}
 use Rattle.decimal.proofs.write.put_signed.Statement.{statement}
 use Rattle.decimal.proofs.write.put_signed.Tie as tie
@@ -15,6 +21,10 @@ sign-of-requires c κs = search needs
 enum-known-v : tie.Need-enum-known-v
 enum-known-v c = search needs
 
+-- src/write.rt:58:47
+cast-put-natural : tie.Need-cast-put-natural
+cast-put-natural c = search needs
+
 -- src/write.rt:58:26
 put-natural-requires : tie.Need-put-natural-requires
 put-natural-requires c κs = search needs
@@ -25,7 +35,7 @@ enum-known-v-2 c = search needs
 
 -- src/write.rt:59:27
 put-negative-requires : tie.Need-put-negative-requires
-put-negative-requires c κs = ?
+put-negative-requires c κs = search needs
 
 -- src/write.rt:53:1
 same-length : tie.Need-same-length
@@ -33,7 +43,7 @@ same-length c = search needs
 
 -- src/write.rt:53:1
 returns : tie.Need-returns
-returns c = ?
+returns c = as-text _ _ (plain-plus _ (c .before .before .before .before .before .before .before .sign-of .ensures ∙ ap signOf (toZ-ofZ (c .before .before .before .before .before .before .before .before .before .fits .n))) (c .before .before .before .before .before .v .given .1)) (c .before .before .put-natural .ensures)
 
 -- src/write.rt:53:1
 same-length-2 : tie.Need-same-length-2
@@ -41,7 +51,7 @@ same-length-2 c = search needs
 
 -- src/write.rt:53:1
 returns-2 : tie.Need-returns-2
-returns-2 c = ?
+returns-2 c = as-text _ _ (plain-minus _ (c .before .before .before .before .before .before .before .sign-of .ensures ∙ ap signOf (toZ-ofZ (c .before .before .before .before .before .before .before .before .before .fits .n))) (c .before .before .before .before .before .v2 .given .1)) (c .before .before .put-negative .ensures)
 
 pub put-signed-spec : {M : Type 1} → statement M
 put-signed-spec =
@@ -49,6 +59,7 @@ put-signed-spec =
     (tie.spec
     sign-of-requires
     enum-known-v
+    cast-put-natural
     put-natural-requires
     enum-known-v-2
     put-negative-requires
