@@ -6,11 +6,12 @@ use native.Mathlib.Omega.{arith}
 use mathlib.Core.Path.{_≡_, refl, sym, ap, _∙_, subst}
 use mathlib.Core.Bool.{Bool, true, false, cond, _&&_}
 use mathlib.Core.List.{List, [], _∷_, _++_}
-use mathlib.Core.Logic.{⊎-elim}
+use mathlib.Core.Logic.{_⊎_, inl, inr}
 use borrow.Author.Tests.{lt-ltb, le-ltb, le-leb, lt-leb, leb-true, leb-false}
 use lib.Dec.{leb, ltb, lit≤}
-use lib.IntN.{ℤ, pos, negsuc}
-use lib.ListN.{length, getD, length-append, List·getD-append}
+use lib.IntN.{ℤ, pos, negsuc, natAbs}
+use lib.Signed.{mag, ltZ}
+use lib.ListN.{length, getD, drop, length-append, List·getD-append}
 use Rattle.decimal.specs.Text.{isDigit, spelt, decimal, plain}
 
 -- ---- the digits of n: one of them below ten, else those of n / 10 and one more
@@ -146,3 +147,52 @@ pub decimal-head : (n : ℕ) → 48 ≤ getD (decimal n) 0 0
 decimal-head =
     decimal-ind (λ n t. 48 ≤ getD t 0 0) (λ n h. omega arith)
     (λ m d h g p. rw (List·getD-append (decimal m) ((48 + d) ∷ []) 0 0 (decimal-some m)) p)
+
+-- the sizes in use: 32 bits, 64 bits
+pub decimal-32 : (n : ℕ) → n < 4294967296 → length (decimal n) ≤ 10
+decimal-32 n h = decimal-length n 10 (omega arith) (omega arith)
+
+pub decimal-64 : (n : ℕ) → n < 18446744073709551616 → length (decimal n) ≤ 20
+decimal-64 n h = decimal-length n 20 (omega arith) (omega arith)
+
+-- a signed value takes one byte more, for its minus
+pub plain-length : (z : ℤ) (k : ℕ) → 1 ≤ k → natAbs z < 10 ^ k → length (plain z) ≤ suc k
+plain-length (pos n) k h l = omega (arith, decimal-length n k h l)
+plain-length (negsuc n) k h l = omega (arith, decimal-length (suc n) k h l)
+
+pub plain-32 : (z : ℤ) → mag z < 2147483648 → length (plain z) ≤ 11
+plain-32 (pos n) h = plain-length (pos n) 10 (omega arith) (omega arith)
+plain-32 (negsuc n) h = plain-length (negsuc n) 10 (omega arith) (omega arith)
+
+-- ---- the form of each byte
+
+pub digit-at : {t : List ℕ} → Digits t → (i : ℕ) → i < length t → isDigit (getD t i 0) ≡ true
+digit-at none i h = absurd (omega arith)
+digit-at (also d p) zero h = d
+digit-at (also d p) (suc i) h = digit-at p i (omega arith)
+
+-- a leading `0` is the whole text of 0
+pub decimal-zero : (n : ℕ) → getD (decimal n) 0 0 ≡ 48 → n ≡ 0
+decimal-zero zero e = refl
+decimal-zero (suc n) e = absurd (omega (arith, decimal-first (suc n) (omega arith)))
+
+-- Each byte is a digit, but for a minus in front of a value below zero. So there is no plus.
+pub plain-byte : (z : ℤ) (i : ℕ) → i < length (plain z)
+    → (isDigit (getD (plain z) i 0) ≡ true) ⊎ ((i ≡ 0) × ((getD (plain z) i 0 ≡ 45) × ltZ z (pos 0) ≡ true))
+plain-byte (pos n) i h = inl (digit-at (decimal-digits n) i h)
+plain-byte (negsuc n) zero h = inr (refl, (refl, refl))
+plain-byte (negsuc n) (suc i) h = inl (digit-at (decimal-digits (suc n)) i (omega arith))
+
+-- no digit behind the front is a leading zero: those of a value below zero begin above `0`
+pub plain-first : (z : ℤ) → (getD (plain z) 0 0 ≡ 48 → z ≡ pos 0) × (getD (plain z) 0 0 ≡ 45 → 48 < getD (plain z) 1 0)
+plain-first (pos n) = (λ e. ap pos (decimal-zero n e), λ e. absurd (omega (arith, decimal-head n)))
+plain-first (negsuc n) = (λ e. absurd (omega arith), λ e. decimal-first (suc n) (omega arith))
+
+-- a value has one text, and a text one value
+pub plain-inj : (y z : ℤ) → plain y ≡ plain z → y ≡ z
+plain-inj (pos m) (pos n) e = ap pos (decimal-inj m n e)
+plain-inj (pos m) (negsuc n) e = absurd (omega (arith, decimal-head m, ap (λ (t : List ℕ). getD t 0 0) e))
+plain-inj (negsuc m) (pos n) e = absurd (omega (arith, decimal-head n, ap (λ (t : List ℕ). getD t 0 0) e))
+plain-inj (negsuc m) (negsuc n) e =
+    let q : suc m ≡ suc n = decimal-inj (suc m) (suc n) (ap (drop 1) e) in
+    ap negsuc (omega arith)

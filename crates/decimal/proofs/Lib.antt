@@ -5,3 +5,5 @@ pub mod Steps
 pub mod Reading
 pub mod Values
 pub mod Writing
+pub mod Back
+pub mod Bad

@@ -5,7 +5,7 @@ use native.Mathlib.Numerals.{add-one}
 use native.Mathlib.Decide.{decLt}
 use native.Mathlib.Omega.{arith}
 use mathlib.Core.Path.{_≡_, refl, sym, ap, _∙_, subst}
-use mathlib.Core.Logic.{_↔_}
+use mathlib.Core.Logic.{_↔_, _⊎_, inl, inr}
 use mathlib.Core.Bool.{Bool, true, false, cond, _&&_}
 use mathlib.Core.List.{List, [], _∷_, _++_, append-assoc, append-nil}
 use borrow.Author.Tests.{le-leb, lt-leb, eq-eqb, ne-eqb, leb-true, eqb-false, eqb-true}
@@ -238,3 +238,40 @@ module _ (range : Range) (s : List ℕ) (at : ℕ) where
   -- document 01's form, for every range: a value is answered exactly if its plain text stands there, in the range, whole
   pub field-exactly : (z : ℤ) (e : ℕ) → (fieldAt s at range ≡ number z e) ↔ Reads range s at z e
   field-exactly z e = (field-reads z e, field-read z e)
+
+  -- nothing is answered exactly if no value of the range stands there
+  pub bad-exactly : (fieldAt s at range ≡ Bad) ↔ ((z : ℤ) (e : ℕ) → Reads range s at z e → ⊥)
+  bad-exactly = (λ q z e r. absurd-field z e (sym q ∙ field-read z e r), λ n. go (fieldAt s at range) refl n)
+    where
+      go : (f : Field) → fieldAt s at range ≡ f → ((z : ℤ) (e : ℕ) → Reads range s at z e → ⊥) → fieldAt s at range ≡ Bad
+      go (Plus v e) q n = absurd (n (pos v) e (field-reads (pos v) e q))
+      go (Minus v e) q n = absurd (n (negsuc v) e (field-reads (negsuc v) e q))
+      go Bad q n = q
+
+  -- reading what was written gives the value back
+  pub field-back : (z : ℤ) (rest : List ℕ) → drop at s ≡ plain z ++ rest → Stops rest → InRange range z → fieldAt s at range ≡ number z (at + length (plain z))
+  field-back z rest q n r = field-read z (at + length (plain z)) (reads-at range s at z rest q n r)
+
+number-inj : (y z : ℤ) (d e : ℕ) → number y d ≡ number z e → (y ≡ z) × (d ≡ e)
+number-inj (pos m) (pos n) d e q = let p : m ≡ n = cc in let r : d ≡ e = cc in (ap pos p, r)
+number-inj (pos m) (negsuc n) d e q = let z : _≡_ {A = ℕ} 0 1 = cc in absurd (omega arith)
+number-inj (negsuc m) (pos n) d e q = let z : _≡_ {A = ℕ} 0 1 = cc in absurd (omega arith)
+number-inj (negsuc m) (negsuc n) d e q = let p : m ≡ n = cc in let r : d ≡ e = cc in (ap negsuc p, r)
+
+-- a range that has the values of both
+both : Range → Range → Range
+both p q = record { below = p .below + q .below; least = 0; most = p .most + q .most }
+
+widened : (p q : Range) (z : ℤ) → InRange p z ⊎ InRange q z → InRange (both p q) z
+unfolding both
+widened p q (pos v) (inl h) = (omega arith, omega arith)
+widened p q (pos v) (inr h) = (omega arith, omega arith)
+widened p q (negsuc v) (inl h) = omega arith
+widened p q (negsuc v) (inr h) = omega arith
+
+-- at most one value stands whole at a place, and it ends at one place, whatever the ranges it is read in
+pub reads-one : (p q : Range) (s : List ℕ) (at : ℕ) (y z : ℤ) (d e : ℕ) → Reads p s at y d → Reads q s at z e → (y ≡ z) × (d ≡ e)
+reads-one p q s at y z d e a b =
+    let m : Reads (both p q) s at y d = record { stands = a .stands; within = widened p q y (inl (a .within)); whole = a .whole } in
+    let n : Reads (both p q) s at z e = record { stands = b .stands; within = widened p q z (inr (b .within)); whole = b .whole } in
+    number-inj y z d e (sym (field-read (both p q) s at y d m) ∙ field-read (both p q) s at z e n)

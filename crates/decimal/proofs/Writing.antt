@@ -7,10 +7,11 @@ use native.Mathlib.Omega.{arith}
 use mathlib.Core.Path.{_≡_, refl, sym, ap, _∙_, subst}
 use mathlib.Core.Bool.{Bool, true, false, not, cond}
 use mathlib.Core.List.{List, [], _∷_, _++_, append-assoc}
+use mathlib.Core.Logic.{_⊎_, inl, inr}
 use borrow.Author.Tests.{le-leb, lt-leb, leb-true, leb-false, not-true, not-false}
 use lib.Dec.{leb}
-use lib.ListN.{length, getD, set, take, drop, length-append, length-take, length-drop, take-append-drop}
-use lib.Seq.{sets, sets-eq, set-comm, length-sets, take-append-le, drop-append-add, drop-append-seam, take-at, drop-at, length-take-le, drop-drop}
+use lib.ListN.{length, getD, set, take, drop, length-append, length-drop}
+use lib.Seq.{sets, sets-eq, set-comm, take-at, drop-at, length-take-le, drop-drop, getD-take, getD-drop}
 use Rattle.decimal.specs.Text.{decimal}
 use Rattle.decimal.specs.Read.{Stands}
 use Rattle.decimal.specs.Write.{put, wrote}
@@ -98,3 +99,63 @@ behind b at d t q = q ∙ ap (λ (k : ℕ). sets (set b at d) k t) (add-one at)
 -- the same text by another name
 pub as-text : (b : List ℕ) (at : ℕ) {c : List ℕ} {r : Put} {t u : List ℕ} → u ≡ t → (r ≡ wrote b at t) × (c ≡ put b at t) → (r ≡ wrote b at u) × (c ≡ put b at u)
 as-text b at e w = rw e w
+
+-- ---- what a text leaves as it was, and where it stands
+
+module _ (b : List ℕ) (at : ℕ) (t : List ℕ) where
+  put-by : (P : List ℕ → Type 0) → P b → (at + length t ≤ length b → P (take at b ++ t ++ drop (at + length t) b)) → P (put b at t)
+  put-by P out in′ = go (decLe (at + length t) (length b))
+    where
+      go : Dec (at + length t ≤ length b) → P (put b at t)
+      go (yes h) = rw (put-room b at t h) (in′ h)
+      go (no h) = rw (put-full b at t (omega arith)) out
+
+  -- as far as the end of the text
+  front : at + length t ≤ length b → length (take at b ++ t) ≡ at + length t
+  front h = length-append (take at b) t ∙ ap (λ (k : ℕ). k + length t) (length-take-le at b (omega arith))
+
+  pub put-length : length (put b at t) ≡ length b
+  put-length =
+      put-by (λ l. length l ≡ length b) refl
+      (λ h. length-append (take at b ++ t) (drop (at + length t) b) ∙ omega (arith, front h, length-drop (at + length t) b))
+
+  pub put-before : take at (put b at t) ≡ take at b
+  put-before =
+      put-by (λ l. take at l ≡ take at b) refl
+      (λ h. ap (take at) (append-assoc (take at b) t (drop (at + length t) b)) ∙ take-at (take at b) (t ++ drop (at + length t) b) at (length-take-le at b (omega arith)))
+
+  pub put-after : drop (at + length t) (put b at t) ≡ drop (at + length t) b
+  put-after =
+      put-by (λ l. drop (at + length t) l ≡ drop (at + length t) b) refl
+      (λ h. drop-at (take at b ++ t) (drop (at + length t) b) (at + length t) (front h))
+
+  -- byte by byte
+  pub put-other : (i : ℕ) → (i < at) ⊎ (at + length t ≤ i) → getD (put b at t) i 0 ≡ getD b i 0
+  put-other i (inl h) = sym (getD-take at (put b at t) i 0 h) ∙ ap (λ (l : List ℕ). getD l i 0) put-before ∙ getD-take at b i 0 h
+  put-other i (inr h) =
+      let e : at + length t + (i - (at + length t)) ≡ i = omega arith in
+      ap (λ (k : ℕ). getD (put b at t) k 0) (sym e)
+      ∙ sym (getD-drop (at + length t) (put b at t) (i - (at + length t)) 0)
+      ∙ ap (λ (l : List ℕ). getD l (i - (at + length t)) 0) put-after
+      ∙ getD-drop (at + length t) b (i - (at + length t)) 0
+      ∙ ap (λ (k : ℕ). getD b k 0) e
+
+  pub put-stands : at + length t ≤ length b → Stands t (put b at t) at (at + length t)
+  put-stands h =
+      record { ends = refl; here =
+        ap (drop at) (put-room b at t h ∙ append-assoc (take at b) t (drop (at + length t) b))
+        ∙ drop-at (take at b) (t ++ drop (at + length t) b) at (length-take-le at b (omega arith))
+        ∙ ap (λ (l : List ℕ). t ++ l) (sym put-after) }
+
+-- two texts, one behind the other, are one text
+pub put-put : (b : List ℕ) (at : ℕ) (t u : List ℕ) → at + length (t ++ u) ≤ length b → put (put b at t) (at + length t) u ≡ put b at (t ++ u)
+put-put b at t u h =
+    let l : length (t ++ u) ≡ length t + length u = length-append t u in
+    let room : at + length t ≤ length b = omega arith in
+    let room₂ : at + length t + length u ≤ length (put b at t) = omega (arith, put-length b at t) in
+    let e : at + length t + length u ≡ at + length (t ++ u) = omega arith in
+    put-room (put b at t) (at + length t) u room₂
+    ∙ ap (λ (p : List ℕ). p ++ u ++ drop (at + length t + length u) (put b at t)) (ap (take (at + length t)) (put-room b at t room) ∙ take-at (take at b ++ t) (drop (at + length t) b) (at + length t) (front b at t room))
+    ∙ ap (λ (r : List ℕ). (take at b ++ t) ++ u ++ r) (sym (drop-drop (length u) (at + length t) (put b at t)) ∙ ap (drop (length u)) (put-after b at t) ∙ drop-drop (length u) (at + length t) b ∙ ap (λ (k : ℕ). drop k b) e)
+    ∙ ap (λ (p : List ℕ). p ++ drop (at + length (t ++ u)) b) (append-assoc (take at b) t u)
+    ∙ sym (put-room b at (t ++ u) h)
