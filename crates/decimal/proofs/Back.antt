@@ -18,8 +18,11 @@ module _ (range : Range) (b : List ℕ) (at : ℕ) (z : ℤ) (room : at + length
     (stops : isDigit (getD b (at + length (plain z)) 0) ≡ false) (within : InRange range z) where
   pub put-reads : Reads range (put b at (plain z)) at z (at + length (plain z))
   put-reads =
-      record { stands = put-stands b at (plain z) room; within = within;
-        whole = ap isDigit (put-other b at (plain z) (at + length (plain z)) (inr (le-refl (at + length (plain z))))) ∙ stops }
+      record {
+        stands = put-stands b at (plain z) room;
+        within = within;
+        whole = ap isDigit (put-other b at (plain z) (at + length (plain z)) (inr (le-refl (at + length (plain z))))) ∙ stops;
+      }
 
   pub put-back : fieldAt (put b at (plain z)) at range ≡ number z (at + length (plain z))
   put-back = field-read range (put b at (plain z)) at z (at + length (plain z)) put-reads

@@ -5,16 +5,14 @@ use native.Mathlib.Decide.{decLt}
 use native.Mathlib.Omega.{arith}
 use mathlib.Core.Path.{_≡_, refl, sym, ap, _∙_, subst}
 use mathlib.Core.Bool.{Bool, true, false, cond}
-use mathlib.Core.List.{List, [], _∷_, _++_}
-use borrow.Author.Tests.{le-leb, eq-eqb, ne-eqb}
-use lib.Dec.{leb, eqb}
+use mathlib.Core.List.{List, [], _∷_}
+use borrow.Author.Tests.{eq-eqb, ne-eqb}
 use lib.IntN.{ℤ, pos, negsuc}
 use lib.Signed.{mag}
 use lib.ListN.{length, getD, drop, replicate, List·getD-eq-default}
 use Rattle.decimal.specs.Text.{isDigit, spelt, decimal, plain}
-use Rattle.decimal.specs.Read.{more, digits, unsigned, negative, fieldAt, naturals, values, number, InRange, Stands, Reads}
+use Rattle.decimal.specs.Read.{more, digits, unsigned, negative, fieldAt, naturals, values, number, InRange, Stands}
 use Rattle.decimal.specs.declared.read.Range.{Range}
-use Rattle.decimal.specs.declared.read.Field.{Field}
 use Rattle.decimal.specs.declared.read.Field.the-variants.{Plus, Minus, Bad}
 use Rattle.decimal.specs.declared.read.Natural.{Natural}
 use Rattle.decimal.proofs.Digits.{digit-above, digit-is}
@@ -90,7 +88,7 @@ module _ (range : Range) (s : List ℕ) (at : ℕ) where
   bad-minus-zero e z =
       let h : at + 1 < length s = within s (at + 1) (omega arith) in
       let n : more (range .below) 0 (at + 1 + 1) (drop (at + 1 + 1) s) ≡ digits (range .below) (at + 1) (drop (at + 1) s) =
-            digits-on (range .below) s (at + 1) h (ap isDigit z ∙ digit-is 0 (omega arith)) 0 (omega arith) (omega arith) in
+      digits-on (range .below) s (at + 1) h (ap isDigit z ∙ digit-is 0 (omega arith)) 0 (omega arith) (omega arith) in
       sym (field-minus s at range (eq-eqb (getD s at 0) 45 e) n (sym (zero-negative (range .below) (at + 1 + 1) (drop (at + 1 + 1) s))))
 
   -- a zero with a digit behind it
@@ -98,8 +96,8 @@ module _ (range : Range) (s : List ℕ) (at : ℕ) where
   bad-zero z d =
       let h : at < length s = within s at (omega arith) in
       let n : Natural.Bad ≡ digits (range .most) at (drop at s) =
-            sym (zero-more (range .most) (at + 1) (drop (at + 1) s) (ap isDigit (head-of s (at + 1)) ∙ d))
-            ∙ digits-on (range .most) s at h (ap isDigit z ∙ digit-is 0 (omega arith)) 0 (omega arith) (omega arith) in
+      sym (zero-more (range .most) (at + 1) (drop (at + 1) s) (ap isDigit (head-of s (at + 1)) ∙ d))
+      ∙ digits-on (range .most) s at h (ap isDigit z ∙ digit-is 0 (omega arith)) 0 (omega arith) (omega arith) in
       sym (field-plain s at range (ne-eqb (getD s at 0) 45 (omega arith)) n (unsigned-bad (range .least) refl))
 
   -- "a number out of its range is not of the form"

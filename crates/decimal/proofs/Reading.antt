@@ -2,13 +2,12 @@
 use Prim.Native.Nat.{ℕ, zero, suc, _+_, _-_, _*_, _≤_, _<_}
 use native.Mathlib.Nat.{add-zero}
 use native.Mathlib.Numerals.{add-one}
-use native.Mathlib.Decide.{decLt}
 use native.Mathlib.Omega.{arith}
 use mathlib.Core.Path.{_≡_, refl, sym, ap, _∙_, subst}
 use mathlib.Core.Logic.{_↔_, _⊎_, inl, inr}
 use mathlib.Core.Bool.{Bool, true, false, cond, _&&_}
 use mathlib.Core.List.{List, [], _∷_, _++_, append-assoc, append-nil}
-use borrow.Author.Tests.{le-leb, lt-leb, eq-eqb, ne-eqb, leb-true, eqb-false, eqb-true}
+use borrow.Author.Tests.{le-leb, eq-eqb, ne-eqb, leb-true, eqb-false, eqb-true}
 use lib.Dec.{leb, eqb}
 use lib.IntN.{ℤ, pos, negsuc}
 use lib.ListN.{length, getD, drop, List·getD-append}
@@ -69,9 +68,15 @@ more-reads most v e (b ∷ s) w f l q = go (isDigit b) refl (eqb v 0) refl (leb 
         let lo : 48 ≤ b = digit-above b i in
         let hi : b ≤ 57 = digit-below b i in
         let same : 48 + (b - 48) ≡ b = omega arith in
-        record { t = b ∷ m .t; rest = m .rest; split = ap (λ (l : List ℕ). b ∷ l) (m .split); place = omega (arith, m .place);
+        record {
+          t = b ∷ m .t;
+          rest = m .rest;
+          split = ap (λ (l : List ℕ). b ∷ l) (m .split);
+          place = omega (arith, m .place);
           text = sym (append-assoc (decimal v) (b ∷ []) (m .t)) ∙ ap (λ (l : List ℕ). l ++ m .t) (sym (rw same at (decimal-snoc v (b - 48) (omega arith) (omega arith)))) ∙ m .text;
-          small = m .small; stops = m .stops }
+          small = m .small;
+          stops = m .stops;
+        }
 
 more-stops : (most v e : ℕ) (s : List ℕ) → Stops s → more most v e s ≡ Natural.Number v e
 unfolding more
@@ -101,8 +106,13 @@ run-of most e b s w f i m =
     let same : 48 + (b - 48) ≡ b = omega arith in
     let one : decimal (b - 48) ≡ b ∷ [] = decimal-small (b - 48) (omega arith) ∙ ap (λ (k : ℕ). k ∷ []) same in
     let text : b ∷ m .t ≡ decimal w = sym (ap (λ (l : List ℕ). l ++ m .t) one) ∙ m .text in
-    record { rest = m .rest; split = ap (λ (l : List ℕ). b ∷ l) (m .split) ∙ ap (λ (l : List ℕ). l ++ m .rest) text;
-      place = m .place ∙ omega (arith, ap length text); small = m .small; stops = m .stops }
+    record {
+      rest = m .rest;
+      split = ap (λ (l : List ℕ). b ∷ l) (m .split) ∙ ap (λ (l : List ℕ). l ++ m .rest) text;
+      place = m .place ∙ omega (arith, ap length text);
+      small = m .small;
+      stops = m .stops;
+    }
 
 digits-reads : (most e : ℕ) (s : List ℕ) (w f : ℕ) → digits most e s ≡ Natural.Number w f → Run most e s w f
 unfolding digits
@@ -126,6 +136,7 @@ module _ (most e : ℕ) (rest : List ℕ) (n : Stops rest) where
     where
       value : worth (b - 48) t ≡ w
       value = ap (λ (k : ℕ). worth k t) (omega arith) ∙ sym (ap (worth 0) q) ∙ worth-decimal w
+
       go : Digits (b ∷ t) → digits most e ((b ∷ t) ++ rest) ≡ Natural.Number w (e + length (b ∷ t))
       go (also d p) =
           rw (d, le-leb (b - 48) most (omega (arith, worth-le (b - 48) t, value)))
@@ -159,7 +170,8 @@ module _ (range : Range) (s : List ℕ) (at : ℕ) (z : ℤ) where
       record {
         stands = record { ends = refl; here = q ∙ ap (λ (l : List ℕ). plain z ++ l) (sym left) };
         within = r;
-        whole = ap isDigit (sym (head-of s (at + length (plain z))) ∙ ap (λ (l : List ℕ). getD l 0 0) left) ∙ n }
+        whole = ap isDigit (sym (head-of s (at + length (plain z))) ∙ ap (λ (l : List ℕ). getD l 0 0) left) ∙ n;
+      }
 
 -- ---- the field: exactly if
 
@@ -195,9 +207,9 @@ module _ (range : Range) (s : List ℕ) (at : ℕ) where
       let run : Run (range .below) (at + 1) (drop (at + 1) s) (suc v) f = digits-reads (range .below) (at + 1) (drop (at + 1) s) (suc v) f d in
       let here : f ≡ e = cc in
       let text : drop at s ≡ 45 ∷ (decimal (suc v) ++ run .rest) =
-            drop-cons s at 0 (minus-within s at m)
-            ∙ ap (λ (b : ℕ). b ∷ drop (suc at) s) (eqb-true (getD s at 0) 45 m)
-            ∙ ap (λ (l : List ℕ). 45 ∷ l) (ap (λ (k : ℕ). drop k s) (sym (add-one at)) ∙ run .split) in
+      drop-cons s at 0 (minus-within s at m)
+      ∙ ap (λ (b : ℕ). b ∷ drop (suc at) s) (eqb-true (getD s at 0) 45 m)
+      ∙ ap (λ (l : List ℕ). 45 ∷ l) (ap (λ (k : ℕ). drop k s) (sym (add-one at)) ∙ run .split) in
       let r : Reads range s at (negsuc v) (at + length (plain (negsuc v))) = reads-at range s at (negsuc v) (run .rest) text (run .stops) (run .small) in
       let place : at + length (plain (negsuc v)) ≡ e = omega (arith, run .place) in
       subst (λ (m : ℕ). Reads range s at (negsuc m) e) same (subst (λ (m : ℕ). Reads range s at (negsuc v) m) place r)

@@ -1,22 +1,21 @@
 -- The two readings over the one: naturals of a range, and signed 32-bit values.
-use Prim.Native.Nat.{ℕ, zero, suc, _+_, _-_, _≤_, _<_}
+use Prim.Native.Nat.{ℕ, suc, _+_, _-_, _<_}
 use native.Mathlib.Numerals.{add-one}
 use native.Mathlib.Omega.{arith}
 use mathlib.Core.Path.{_≡_, refl, sym, ap, _∙_}
 use mathlib.Core.List.{List, _∷_}
 use mathlib.Core.Logic.{_↔_}
-use mathlib.Core.Bool.{Bool, true, false}
+use mathlib.Core.Bool.{true, false}
 use borrow.Author.Tests.{ltb-true}
 use lib.Dec.{T}
 use lib.IntN.{ℤ, pos, negsuc, natAbs}
 use lib.Signed.{mag, ltZ, nonNeg}
-use mir.Syntax.{w32, w64}
+use mir.Syntax.{w32}
 use mir.Val.{Fits, SFits, toZ, ofZ}
 use mir.Facts.{toZ-pos, toZ-neg, toZ-ofZ}
 use Rattle.decimal.specs.Text.{decimal, plain}
 use Rattle.decimal.specs.Read.{fieldAt, asNatural, naturalAt, naturals, asSigned, signedAt, values, number, Reads}
 use Rattle.decimal.specs.Write.{signOf}
-use Rattle.decimal.specs.declared.read.Range.{Range}
 use Rattle.decimal.specs.declared.read.Field.{Field}
 use Rattle.decimal.specs.declared.read.Field.the-variants.{Plus, Minus, Bad}
 use Rattle.decimal.specs.declared.read.Natural.{Natural}
@@ -48,9 +47,10 @@ module _ (s : List ℕ) (at least most : ℕ) where
   -- a natural is answered exactly if its digits stand there, in the range, with no digit behind them
   pub natural-exactly : (v e : ℕ) → (naturalAt s at least most ≡ Natural.Number v e) ↔ Reads (naturals least most) s at (pos v) e
   unfolding naturalAt asNatural
-  natural-exactly v e =
-      (λ q. field-reads (naturals least most) s at (pos v) e (as-natural (fieldAt s at (naturals least most)) v e q),
-      λ r. ap asNatural (field-read (naturals least most) s at (pos v) e r))
+  natural-exactly v e = (
+    λ q. field-reads (naturals least most) s at (pos v) e (as-natural (fieldAt s at (naturals least most)) v e q),
+    λ r. ap asNatural (field-read (naturals least most) s at (pos v) e r),
+  )
 
 -- ---- signed values
 
@@ -94,9 +94,10 @@ module _ (s : List ℕ) (at : ℕ) where
   -- a signed 32-bit value is answered exactly if its plain form stands there, with no digit behind it
   pub signed-exactly : (z : ℤ) (e : ℕ) → (signedAt s at ≡ Signed.Number z e) ↔ Reads values s at z e
   unfolding signedAt
-  signed-exactly z e =
-      (λ q. field-reads values s at z e (as-signed (fieldAt s at values) z e q),
-      λ r. ap asSigned (field-read values s at z e r) ∙ signed-number z e)
+  signed-exactly z e = (
+    λ q. field-reads values s at z e (as-signed (fieldAt s at values) z e q),
+    λ r. ap asSigned (field-read values s at z e r) ∙ signed-number z e,
+  )
 
 -- ---- a signed value, taken apart by the machine: z as its bits, and as the bits of `!z`
 

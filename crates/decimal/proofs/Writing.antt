@@ -1,11 +1,11 @@
 -- Writing text: digits from the back, a text put whole or not at all, and what it leaves as it was.
-use Prim.Native.Nat.{ℕ, zero, suc, _+_, _-_, _*_, _/_, _%_, _≤_, _<_}
+use Prim.Native.Nat.{ℕ, suc, _+_, _-_, _/_, _%_, _≤_, _<_}
 use native.Mathlib.Nat.{add-zero}
 use native.Mathlib.Numerals.{add-one}
 use native.Mathlib.Decide.{decLe}
 use native.Mathlib.Omega.{arith}
-use mathlib.Core.Path.{_≡_, refl, sym, ap, _∙_, subst}
-use mathlib.Core.Bool.{Bool, true, false, not, cond}
+use mathlib.Core.Path.{_≡_, refl, sym, ap, _∙_}
+use mathlib.Core.Bool.{Bool, true, false, not}
 use mathlib.Core.List.{List, [], _∷_, _++_, append-assoc}
 use mathlib.Core.Logic.{_⊎_, inl, inr}
 use borrow.Author.Tests.{le-leb, lt-leb, leb-true, leb-false, not-true, not-false}
@@ -142,10 +142,13 @@ module _ (b : List ℕ) (at : ℕ) (t : List ℕ) where
 
   pub put-stands : at + length t ≤ length b → Stands t (put b at t) at (at + length t)
   put-stands h =
-      record { ends = refl; here =
-        ap (drop at) (put-room b at t h ∙ append-assoc (take at b) t (drop (at + length t) b))
-        ∙ drop-at (take at b) (t ++ drop (at + length t) b) at (length-take-le at b (omega arith))
-        ∙ ap (λ (l : List ℕ). t ++ l) (sym put-after) }
+      record {
+        ends = refl;
+        here =
+            ap (drop at) (put-room b at t h ∙ append-assoc (take at b) t (drop (at + length t) b))
+            ∙ drop-at (take at b) (t ++ drop (at + length t) b) at (length-take-le at b (omega arith))
+            ∙ ap (λ (l : List ℕ). t ++ l) (sym put-after);
+      }
 
 -- two texts, one behind the other, are one text
 pub put-put : (b : List ℕ) (at : ℕ) (t u : List ℕ) → at + length (t ++ u) ≤ length b → put (put b at t) (at + length t) u ≡ put b at (t ++ u)

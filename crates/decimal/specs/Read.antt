@@ -1,7 +1,7 @@
 -- Reading decimal text. Document 01: "a number out of its range is not of the form".
 use Prim.Native.Nat.{ℕ, zero, suc, _+_, _-_, _*_, _≤_, _<_}
 use mathlib.Core.Path.{_≡_}
-use mathlib.Core.Bool.{Bool, false, cond, _&&_}
+use mathlib.Core.Bool.{false, cond, _&&_}
 use mathlib.Core.List.{List, [], _∷_, _++_}
 use lib.Dec.{leb, eqb}
 use lib.IntN.{ℤ, pos, negsuc}
@@ -44,7 +44,7 @@ fieldAt s at range =
     (negative (digits (range .below) (at + 1) (drop (at + 1) s)))
     (unsigned (range .least) (digits (range .most) at (drop at s)))
 
--- the values of a range that are not below zero, as a reading of their own
+-- the values from least to most, and none below zero
 abbrev pub naturals : ℕ → ℕ → Range
 naturals least most = record { below = 0; least = least; most = most }
 

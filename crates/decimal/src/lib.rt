@@ -15,5 +15,7 @@ pub use write::put_natural;
 pub use write::put_signed;
 
 const ZERO: u8 = b'0';
+
 const NINE: u8 = b'9';
+
 const MINUS: u8 = b'-';

@@ -1,11 +1,10 @@
 // Reading a number at a place of a text.
-ghost use Prim.Native.Nat.{_+_, _-_, _*_, _≤_};
+ghost use Prim.Native.Nat.{_+_, _-_, _*_};
 ghost use mathlib.Core.Path.{_≡_};
 ghost use lib.Dec.{leb, eqb};
-ghost use lib.ListN.{length, getD, drop};
+ghost use lib.ListN.{getD, drop};
 ghost use Rattle.decimal.specs.Text.{isDigit};
 ghost use Rattle.decimal.specs.Read.{more, digits, unsigned, negative, fieldAt, naturalAt, signedAt};
-
 use crate::MINUS;
 use crate::NINE;
 use crate::ZERO;
@@ -58,7 +57,15 @@ pub fn field_at(s: &[u8], at: usize, range: Range) -> Field
 pub fn natural_at(s: &[u8], at: usize, least: u64, most: u64) -> Natural
     ensures { λ r. ⌜ r ≡ naturalAt (now (s .entry)) at least most ⌝ }
 {
-    match field_at(s, at, Range { below: 0, least, most }) {
+    match field_at(
+        s,
+        at,
+        Range {
+            below: 0,
+            least,
+            most,
+        },
+    ) {
         Field::Plus(v, e) => Natural::Number(v, e),
         Field::Minus(_, _) => Natural::Bad,
         Field::Bad => Natural::Bad,
@@ -95,12 +102,11 @@ fn behind_minus(n: Natural) -> Field
     ensures { λ r. ⌜ r ≡ negative n ⌝ }
 {
     match n {
-        Natural::Number(v, e) => {
-            if v == 0 {
-                Field::Bad
-            } else {
-                Field::Minus(v - 1, e)
+        Natural::Number(m, e) => {
+            if m == 0 {
+                return Field::Bad;
             }
+            Field::Minus(m - 1, e)
         }
         Natural::Bad => Field::Bad,
     }

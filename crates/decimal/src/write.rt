@@ -1,14 +1,12 @@
 // Writing a number at a place of a lent buffer: whole, or not at all.
-ghost use Prim.Native.Nat.{suc, _+_, _≤_, _<_};
+ghost use Prim.Native.Nat.{_+_, _≤_, _<_};
 ghost use mathlib.Core.Path.{_≡_};
 ghost use mathlib.Core.List.{[], _∷_};
 ghost use lib.Dec.{leb};
 ghost use lib.ListN.{length};
 ghost use lib.Seq.{sets};
-ghost use lib.IntN.{pos};
 ghost use Rattle.decimal.specs.Text.{decimal, plain};
 ghost use Rattle.decimal.specs.Write.{put, wrote, signOf};
-
 use crate::MINUS;
 use crate::ZERO;
 
