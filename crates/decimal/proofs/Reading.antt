@@ -10,7 +10,7 @@ use mathlib.Core.List.{List, [], _∷_, _++_, append-assoc, append-nil}
 use borrow.Author.Tests.{le-leb, eq-eqb, ne-eqb, leb-true, eqb-false, eqb-true}
 use lib.Dec.{leb, eqb}
 use lib.IntN.{ℤ, pos, negsuc}
-use lib.ListN.{length, getD, drop, List·getD-append}
+use lib.ListN.{length, getD, drop, length-append, length-drop, List·getD-append}
 use lib.Seq.{drop-cons, drop-drop, drop-append-seam, getD-drop}
 use Rattle.decimal.specs.Text.{isDigit, decimal, plain}
 use Rattle.decimal.specs.Read.{more, digits, unsigned, negative, fieldAt, number, InRange, Stands, Reads}
@@ -287,3 +287,17 @@ reads-one p q s at y z d e a b =
     let m : Reads (both p q) s at y d = record { stands = a .stands; within = widened p q y (inl (a .within)); whole = a .whole } in
     let n : Reads (both p q) s at z e = record { stands = b .stands; within = widened p q z (inr (b .within)); whole = b .whole } in
     number-inj y z d e (sym (field-read (both p q) s at y d m) ∙ field-read (both p q) s at z e n)
+
+-- ---- a value stands within the text
+
+plain-some : (z : ℤ) → 1 ≤ length (plain z)
+plain-some (pos v) = decimal-some v
+plain-some (negsuc v) = omega arith
+
+pub reads-within : (range : Range) (s : List ℕ) (at : ℕ) (z : ℤ) (e : ℕ) → Reads range s at z e → (at < e) × (e ≤ length s)
+reads-within range s at z e r =
+    let some : 1 ≤ length (plain z) = plain-some z in
+    let ends : e ≡ at + length (plain z) = r .stands .ends in
+    let left : length s - at ≡ length (plain z) + (length s - e) =
+    sym (length-drop at s) ∙ ap length (r .stands .here) ∙ length-append (plain z) (drop e s) ∙ ap (λ (k : ℕ). length (plain z) + k) (length-drop e s) in
+    (omega arith, omega arith)

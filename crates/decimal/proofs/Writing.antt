@@ -150,6 +150,28 @@ module _ (b : List ℕ) (at : ℕ) (t : List ℕ) where
             ∙ ap (λ (l : List ℕ). t ++ l) (sym put-after);
       }
 
+-- what a caller learns from the answer
+module _ (b : List ℕ) (at : ℕ) (t : List ℕ) where
+  pub wrote-next : (e : ℕ) → wrote b at t ≡ Next e → (e ≡ at + length t) × (at + length t ≤ length b)
+  wrote-next e q = go (decLe (at + length t) (length b))
+    where
+      go : Dec (at + length t ≤ length b) → (e ≡ at + length t) × (at + length t ≤ length b)
+      go (yes h) = let p : Next (at + length t) ≡ Next e = sym (wrote-room b at t h) ∙ q in let r : e ≡ at + length t = cc in (r, h)
+      go (no h) =
+          let p : Full ≡ Next e = sym (wrote-full b at t (omega arith)) ∙ q in
+          let z : _≡_ {A = ℕ} 0 1 = cc in
+          absurd (omega arith)
+
+  pub wrote-none : wrote b at t ≡ Full → length b < at + length t
+  wrote-none q = go (decLe (at + length t) (length b))
+    where
+      go : Dec (at + length t ≤ length b) → length b < at + length t
+      go (yes h) =
+          let p : Next (at + length t) ≡ Full = sym (wrote-room b at t h) ∙ q in
+          let z : _≡_ {A = ℕ} 0 1 = cc in
+          absurd (omega arith)
+      go (no h) = omega arith
+
 -- two texts, one behind the other, are one text
 pub put-put : (b : List ℕ) (at : ℕ) (t u : List ℕ) → at + length (t ++ u) ≤ length b → put (put b at t) (at + length t) u ≡ put b at (t ++ u)
 put-put b at t u h =
