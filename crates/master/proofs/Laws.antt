@@ -9,6 +9,7 @@ use borrow.Author.Tests.{le-leb, lt-leb, lt-ltb, le-ltb, eq-eqb, ne-eqb}
 use lib.Dec.{leb, ltb, eqb}
 use lib.IntN.{ℤ}
 use lib.ListN.{getD, set, length, take, length-take}
+use lib.Seq.{getD-take}
 use Rattle.units.specs.Refusal.{numberOf}
 use Rattle.units.specs.declared.Batch.{Batch}
 use Rattle.units.specs.declared.Version.{Version}
@@ -18,6 +19,7 @@ use Rattle.units.specs.declared.rule.Rule.{Rule}
 use Rattle.units.specs.declared.rule.Certified.{Certified}
 use Rattle.units.specs.declared.rule.Certified.the-variants.{Whole, Broken}
 use Rattle.units.specs.declared.refusal.Refusal.{Refusal}
+use Rattle.units.specs.declared.refusal.Refusal.the-variants.{TransactionFull, KeyWritten, NoVersion}
 use Rattle.transaction.specs.declared.Transaction.{Transaction}
 use Rattle.transaction.specs.declared.Pending.{Pending}
 use Rattle.transaction.specs.declared.Pending.the-variants.{Value, Nothing}
@@ -153,3 +155,65 @@ module _ (m : Master) (log : List Entry) where
   pub newest-goes : (k : ℕ) → k ≤ 63 → stepped (madeBy (newest log k .stamp .0)) m log ≡ step (stateOf m log) (Newest k)
   unfolding step order
   newest-goes k h = rw (le-ltb 63 _ h)
+
+-- read, note, distance and commit after the transaction was found at a place: t is what the desk's total accessor gave
+module _ (m : Master) (n i : ℕ) (t : Transaction) (log : List Entry) (e : i ≡ placeOf (m .place) n) (below : i < 32) (at : t ≡ getD (m .place) (min i 31) noTransaction) where
+  live : placeOf (m .place) n < 32
+  live = rw e at below
+
+  same : t ≡ transaction (stateOf m log) n
+  same = found m n i t log e below at
+
+  waits : (k : ℕ) (p q : Pending) → p ≡ pendingOf t k → p ≡ q → pendingOf (transaction (stateOf m log) n) k ≡ q
+  waits k p q h g = rw (← same) (sym h ∙ g)
+
+  pub read-own-at : (k : ℕ) (v : ℤ) (p : Pending) (r : Looked) → k ≤ 63 → p ≡ pendingOf t k → p ≡ Value v → (r .answer ≡ ReadAnswer.Own v) × (r .master ≡ m)
+    → (stepped (readReply (r .answer)) (r .master) log ≡ step (stateOf m log) (Read n k)) × (r .master .length ≡ m .length)
+  read-own-at k v p r h g q a = answered m m r _ log _ a refl (read-own m n log live k v h (waits k p (Value v) g q))
+
+  pub read-full-at : (k : ℕ) (p : Pending) (r : Looked) → k ≤ 63 → p ≡ pendingOf t k → p ≡ Nothing → 16 ≤ t .recorded
+    → (r .answer ≡ ReadAnswer.Refused TransactionFull) × (r .master ≡ m)
+    → (stepped (readReply (r .answer)) (r .master) log ≡ step (stateOf m log) (Read n k)) × (r .master .length ≡ m .length)
+  read-full-at k p r h g q f a = answered m m r _ log _ a refl (read-full m n log live k h (waits k p Nothing g q) (rw same at f))
+
+  pub read-at : (k : ℕ) (p : Pending) (v : Version) (r : Looked) → k ≤ 63 → p ≡ pendingOf t k → p ≡ Nothing → t .recorded < 16 → v ≡ newest log k
+    → (r .answer ≡ ReadAnswer.Answered v) × (r .master ≡ withPlace m i (recorded t (marked k v)))
+    → (stepped (readReply (r .answer)) (r .master) log ≡ step (stateOf m log) (Read n k)) × (r .master .length ≡ m .length)
+  read-at k p v r h g q f w a =
+      answered m _ r _ log _ a refl (rw (same, e, w) (read-goes m n log live k h (waits k p Nothing g q) (rw same at f)))
+
+  pub note-written-at : (k o : ℕ) (v : ℤ) (p : Pending) (r : Looked) → k ≤ 63 → p ≡ pendingOf t k → p ≡ Value v → (r .answer ≡ ReadAnswer.Refused KeyWritten) × (r .master ≡ m)
+    → (stepped (readReply (r .answer)) (r .master) log ≡ step (stateOf m log) (Note n k o)) × (r .master .length ≡ m .length)
+  note-written-at k o v p r h g q a = answered m m r _ log _ a refl (note-written m n log live k o v h (waits k p (Value v) g q))
+
+  pub note-absent-at : (k o : ℕ) (p : Pending) (l : Found) (r : Looked) → k ≤ 63 → p ≡ pendingOf t k → p ≡ Nothing → l ≡ lookUp log k o → l ≡ Absent
+    → (r .answer ≡ ReadAnswer.Refused NoVersion) × (r .master ≡ m)
+    → (stepped (readReply (r .answer)) (r .master) log ≡ step (stateOf m log) (Note n k o)) × (r .master .length ≡ m .length)
+  note-absent-at k o p l r h g q x y a = answered m m r _ log _ a refl (note-absent m n log live k o h (waits k p Nothing g q) (sym x ∙ y))
+
+  pub note-full-at : (k o : ℕ) (v : Version) (p : Pending) (l : Found) (r : Looked) → k ≤ 63 → p ≡ pendingOf t k → p ≡ Nothing → l ≡ lookUp log k o → l ≡ At v
+    → 16 ≤ t .recorded
+    → (r .answer ≡ ReadAnswer.Refused TransactionFull) × (r .master ≡ m)
+    → (stepped (readReply (r .answer)) (r .master) log ≡ step (stateOf m log) (Note n k o)) × (r .master .length ≡ m .length)
+  note-full-at k o v p l r h g q x y f a =
+      answered m m r _ log _ a refl (note-full m n log live k o v h (waits k p Nothing g q) (sym x ∙ y) (rw same at f))
+
+  pub note-at : (k o : ℕ) (v : Version) (p : Pending) (l : Found) (r : Looked) → k ≤ 63 → p ≡ pendingOf t k → p ≡ Nothing → l ≡ lookUp log k o → l ≡ At v
+    → t .recorded < 16
+    → (r .answer ≡ ReadAnswer.Answered v) × (r .master ≡ withPlace m i (recorded t (marked k v)))
+    → (stepped (readReply (r .answer)) (r .master) log ≡ step (stateOf m log) (Note n k o)) × (r .master .length ≡ m .length)
+  note-at k o v p l r h g q x y f a =
+      answered m _ r _ log _ a refl (rw (same, e) (note-goes m n log live k o v h (waits k p Nothing g q) (sym x ∙ y) (rw same at f)))
+
+  -- as many reads count as the transaction says, and at most 16
+  module _ (places : length (t .reads) ≡ 16) where
+    reads-size : length (readsOf t) ≡ min (t .recorded) 16
+    reads-size = length-take (t .recorded) (t .reads) ∙ ap (λ (x : ℕ). min (t .recorded) x) places
+
+    pub distance-none-at : (j : ℕ) → min (t .recorded) 16 ≤ j → stepped (refused 9) m log ≡ step (stateOf m log) (Distance n j)
+    distance-none-at j h = distance-none m n log live j (rw (← same, reads-size) h)
+
+    pub distance-at : (j : ℕ) (d : ℤ) → j < min (t .recorded) 16 → d ≡ distance log (t .name .0) (getD (t .reads) j noMark)
+      → stepped (apartBy d) m log ≡ step (stateOf m log) (Distance n j)
+    distance-at j d h w =
+        rw (w, ← getD-take (t .recorded) (t .reads) j noMark (omega arith), same) (distance-goes m n log live j (rw (← same, reads-size) h))
