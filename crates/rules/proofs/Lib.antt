@@ -1,3 +1,5 @@
 pub mod Places
 pub mod Signed
+pub mod Asked
+pub mod Reaching
 pub mod Verdict

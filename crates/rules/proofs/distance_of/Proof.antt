@@ -1,6 +1,6 @@
 -- `distance_of` meets its contract: the difference of the two counts.
 use mir.Facts.{toZ-ofZ}
-use Rattle.rules.proofs.Verdict.{by-counts}
+use Rattle.rules.proofs.Asked.{by-counts}
 use borrow.Author.Needs.{needs}
 use Rattle.rules.proofs.distance_of.Statement.{statement}
 use Rattle.rules.proofs.distance_of.Tie as tie

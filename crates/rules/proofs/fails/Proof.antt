@@ -1,6 +1,6 @@
 -- `fails` meets its contract: each arm is a case of the test.
 use mir.Facts.{toZ-ofZ}
-use Rattle.rules.proofs.Verdict.{is-stale, is-early, is-torn, is-apart}
+use Rattle.rules.proofs.Asked.{is-stale, is-early, is-torn, is-apart}
 use borrow.Author.Needs.{needs}
 use Rattle.rules.proofs.fails.Statement.{statement}
 use Rattle.rules.proofs.fails.Tie as tie

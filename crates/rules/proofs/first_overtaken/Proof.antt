@@ -12,7 +12,7 @@ use Rattle.lists.proofs.Find.{search-over, search-hit, search-miss}
 use Rattle.columns.specs.Columns.{logOf, used}
 use Rattle.transaction.specs.Transaction.{writesOf, noWrite}
 use Rattle.model.specs.Rules.{overtaken}
-use Rattle.rules.proofs.Verdict.{of-key}
+use Rattle.rules.proofs.Asked.{of-key}
 use Rattle.rules.proofs.first_overtaken.Statement.{statement}
 use Rattle.rules.proofs.first_overtaken.Tie as tie
 

@@ -7,7 +7,7 @@ use borrow.Author.Needs.{needs}
 use Rattle.transaction.specs.declared.Mark.{Mark}
 use Rattle.transaction.specs.Transaction.{readsOf}
 use Rattle.rules.specs.Tests.{latest}
-use Rattle.rules.proofs.Verdict.{latest-more, latest-over}
+use Rattle.rules.proofs.Reaching.{latest-more, latest-over}
 use Rattle.rules.proofs.latest.Statement.{statement}
 use Rattle.rules.proofs.latest.Tie as tie
 
