@@ -1,6 +1,5 @@
 // The calls of the master that look at versions, over the log's four lent columns: read, note, distance, commit, the versions that a
 // commit made, the stamp of a key's newest version.
-ghost use Prim.Native.Nat.{_+_, min};
 ghost use mathlib.Core.Path.{_≡_};
 ghost use lib.ListN as lists;
 ghost use Rattle.transaction.specs.Transaction.{recorded, ended};
@@ -11,7 +10,6 @@ ghost use Rattle.model.specs.Call.{Read, Note, Distance, Commit, Message, Newes
 ghost use Rattle.desk.specs.Desk.{stateOf, stepped, withPlace};
 ghost use Rattle.versions.specs.Batch.{batchOf};
 ghost use Rattle.master.specs.Master.{logAt, readReply, distanceReply, commitReply, madeReply, newestReply, columnAfter, lengthAfter};
-
 use columns::in_use;
 use desk::Master;
 use transaction::Mark;
@@ -132,7 +130,15 @@ pub fn note(
     match t.pending(k) {
         Pending::Value(_) => refuse(master, Refusal::KeyWritten),
         Pending::Nothing => {
-            let Found::At(v) = versions::look_up(keys, ordinals, stamps, values, master.length, k, ordinal) else {
+            let Found::At(v) = versions::look_up(
+                keys,
+                ordinals,
+                stamps,
+                values,
+                master.length,
+                k,
+                ordinal,
+            ) else {
                 return refuse(master, Refusal::NoVersion);
             };
             if limits::READS <= t.recorded {
@@ -161,10 +167,10 @@ pub fn distance(
     }
     let t = master.at(i);
     let p = place as usize;
-    if at_most(t.recorded, limits::READS) <= p {
+    if rules::reads_in(t) <= p {
         return DistanceAnswer::Refused(Refusal::NoSuchBoundOrPlace);
     }
-    let d = rules::distance_of(keys, stamps, master.length, t.name, t.reads[p]);
+    let d = rules::distance_of(keys, stamps, master.length, t.name, rules::read_at(t, p));
     DistanceAnswer::Distance(d)
 }
 
@@ -192,7 +198,7 @@ pub fn commit(
     match rules::certify(keys, stamps, master.length, t) {
         Certified::Broken(rule) => aborted(master, i, t, rule),
         Certified::Whole => {
-            if limits::LOG < in_use(master.length) + at_most(t.written, limits::WRITES) {
+            if limits::LOG - in_use(master.length) < rules::writes_in(t) {
                 return deny(master, Refusal::LogFull);
             }
             let clock = master.clock;
@@ -314,10 +320,4 @@ fn committed(master: Master, i: usize, t: Transaction, now: Stamp, length: usize
         answer: CommitAnswer::Committed(now),
         master: m,
     }
-}
-
-fn at_most(n: usize, most: usize) -> usize
-    ensures { λ r. ⌜ r ≡ min n most ⌝ }
-{
-    if n < most { n } else { most }
 }

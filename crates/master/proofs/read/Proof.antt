@@ -1,5 +1,8 @@
 -- `read` meets its contract: document 01's refusals in their order, or the own pending value, or the newest version, recorded.
 use mathlib.Core.Path.{refl}
+use mir.Facts.{toZ-ofZ}
+use mir.Syntax.{w32}
+use mir.Val.{SFits}
 use Rattle.master.proofs.Laws.{answered, read-nobody, read-no-key, read-own-at, read-full-at, read-at}
 use borrow.Author.Needs.{needs}
 use Rattle.master.proofs.read.Statement.{statement}
@@ -69,9 +72,10 @@ returns-4 c =
     let p = c .before .before .before .before in
     let e = p .before .before in
     let b = e .before in
+    let f : SFits w32 (c .before .before .v .given .0 .0) = search needs in
     read-own-at (b .before .before .args .master) _ _ _ _ (b .before .place-of .ensures) (b .if1 .left) (p .before .at .ensures) _ _ _ _ (e .if2 .left) (p .pending .ensures)
     (c .before .before .v .given .1)
-    (c .own .ensures)
+    (rw (toZ-ofZ f) at (c .own .ensures))
 
 returns-5 : tie.Need-returns-5
 returns-5 c =
