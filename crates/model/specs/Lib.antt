@@ -4,3 +4,5 @@ pub mod State
 pub mod Call
 pub mod Step
 pub mod Session
+pub mod Checks
+pub mod Ending

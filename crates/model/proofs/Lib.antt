@@ -1,0 +1,4 @@
+pub mod Replies
+pub mod Order
+pub mod Refusals
+pub mod Aborts
