@@ -2,3 +2,6 @@ pub mod Replies
 pub mod Order
 pub mod Refusals
 pub mod Aborts
+pub mod Rules
+pub mod Commits
+pub mod Counts

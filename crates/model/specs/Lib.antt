@@ -6,3 +6,4 @@ pub mod Step
 pub mod Session
 pub mod Checks
 pub mod Ending
+pub mod Kept
