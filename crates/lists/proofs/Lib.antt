@@ -1,3 +1,5 @@
 pub mod Find
 pub mod Length
 pub mod Every
+pub mod Members
+pub mod Count

@@ -13,7 +13,7 @@ use Rattle.transaction.specs.declared.Write.{Write}
 use Rattle.model.specs.Log.{Entry, ofKey, upTo, between, next, installed}
 use Rattle.model.specs.Rules.{distance}
 
-and-false : (b : Bool) → (b && false) ≡ false
+pub and-false : (b : Bool) → (b && false) ≡ false
 and-false true = refl
 and-false false = refl
 

@@ -5,3 +5,4 @@ pub mod Aborts
 pub mod Rules
 pub mod Commits
 pub mod Counts
+pub mod History

@@ -7,3 +7,4 @@ pub mod Session
 pub mod Checks
 pub mod Ending
 pub mod Kept
+pub mod Reached
