@@ -55,10 +55,20 @@ pub upTo-more : {log : List Entry} {e : Entry} (x t u : ℕ) → In e log → e 
 unfolding upTo
 upTo-more {log} {e} x t u i q h k = count-more _ _ (upTo-tests log x (omega arith)) i (rw (lt-leb _ _ h) (and-false (ofKey x e))) (rw (eq-eqb _ _ q) (le-leb _ _ k))
 
+pub length-installed : (log : List Entry) (stamp : ℕ) (ws : List Write) → length (installed log stamp ws) ≡ length log + length ws
+unfolding installed
+length-installed log stamp [] = omega arith
+length-installed log stamp (w ∷ ws) = length-installed (next log stamp w ∷ log) stamp ws ∙ omega arith
+
 module _ {opening : ℕ} where
-  chain-from : {clock : ℕ} {log : List Entry} → Chain opening clock log → opening ≤ clock
+  pub chain-from : {clock : ℕ} {log : List Entry} → Chain opening clock log → opening ≤ clock
   chain-from (base h) = h
   chain-from (link a b k o s c) = omega arith
+
+  -- a later clock does no harm
+  pub grown-later : {clock later : ℕ} {log : List Entry} → Grown opening clock log → clock ≤ later → Grown opening later log
+  grown-later {later = later} (bare h) l = bare {clock = later} (omega arith)
+  grown-later {later = later} (grew stamp ws g b h w) l = grew {clock = later} stamp ws g b (omega arith) w
 
   chain-later : {clock later : ℕ} {log : List Entry} → Chain opening clock log → clock ≤ later → Chain opening later log
   chain-later {later = later} (base h) l = base {clock = later} (omega arith)

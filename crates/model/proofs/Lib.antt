@@ -6,3 +6,7 @@ pub mod Rules
 pub mod Commits
 pub mod Counts
 pub mod History
+pub mod Made
+pub mod Stands
+pub mod Seats
+pub mod Reached

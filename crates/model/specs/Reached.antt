@@ -11,7 +11,7 @@ use Rattle.transaction.specs.declared.Mark.{Mark}
 use Rattle.transaction.specs.declared.Write.{Write}
 use Rattle.transaction.specs.declared.Transaction.{Transaction}
 use Rattle.transaction.specs.Transaction.{readsOf, writesOf}
-use Rattle.model.specs.Log.{Entry, versions, installed}
+use Rattle.model.specs.Log.{Entry, versions, next, installed, madeAt}
 use Rattle.model.specs.State.{State, noTransaction}
 
 abbrev pub keysOf : List Write → List ℕ
@@ -35,6 +35,13 @@ pub data Chain (opening : ℕ) : ℕ → List Entry → Type 0 where
   base : {clock : ℕ} → opening ≤ clock → Chain opening clock []
   link : {clock : ℕ} {e : Entry} {es : List Entry} → opening < e .stamp → e .stamp ≤ clock → e .key ≤ 63 → e .ordinal ≡ suc (versions es (e .key))
       → Every (λ (f : Entry). f .key ≡ e .key → f .stamp < e .stamp) es → Chain opening (e .stamp) es → Chain opening clock (e ∷ es)
+
+-- the versions of one stamp are what one commit made of its writes, each with its key's next ordinal over the log of its time
+pub record OneCommit (log : List Entry) (stamp : ℕ) : Type 0 where
+  pub before : List Entry
+  pub writes : List Write
+  pub fine : Writes writes
+  pub made : madeAt log stamp ≡ map (next before stamp) writes
 
 -- "the master looks it up and believes nothing else": a recorded read is the start version, or a version that the log has
 pub data Stands (log : List Entry) (x : Mark) : Type 0 where
