@@ -10,3 +10,4 @@ pub mod Made
 pub mod Stands
 pub mod Seats
 pub mod Reached
+pub mod Clock

@@ -2,10 +2,11 @@
 -- buffers stay as they were. An abort only ends its transaction." Every state is taken, also one that no session reaches.
 use Prim.Native.Nat.{ℕ}
 use native.Mathlib.Omega.{arith}
+use mathlib.Core.List.{List}
 use mathlib.Core.Path.{_≡_, refl}
 use mathlib.Core.Logic.{_↔_}
-use mathlib.Core.Bool.{false, true≢false}
-use Rattle.lists.specs.Lists.{Every, also}
+use mathlib.Core.Bool.{true, false, true≢false, false≢true}
+use Rattle.lists.specs.Lists.{Every, none, also}
 use Rattle.units.specs.declared.Found.{Found}
 use Rattle.units.specs.declared.Found.the-variants.{At, Absent}
 use Rattle.units.specs.declared.rule.Certified.{Certified}
@@ -16,11 +17,12 @@ use Rattle.transaction.specs.Transaction.{pendingOf}
 use Rattle.model.specs.Log.{lookUp}
 use Rattle.model.specs.Rules.{certified}
 use Rattle.model.specs.State.{State, transaction}
-use Rattle.model.specs.Call.{Call, Start, Read, Note, Write, Tune, Distance, Abort, Commit, Message, Newest, refused}
-use Rattle.model.specs.Step.{step, order, aborts, isAbsent, notes, reads}
+use Rattle.units.specs.declared.rule.Rule.{Rule}
+use Rattle.model.specs.Call.{Call, Start, Read, Note, Write, Tune, Distance, Abort, Commit, Message, Newest, refused, aborted}
+use Rattle.model.specs.Step.{Step, Check, step, order, answers, aborts, isAbsent, notes, reads, ends}
 use Rattle.model.specs.Checks.{checksOf, finalOf, lineOf, decides, number, theAborts}
 use Rattle.model.proofs.Replies.{other}
-use Rattle.model.proofs.Order.{Fails, Says, Fits, end, more, refusing, order-refused, refused-order}
+use Rattle.model.proofs.Order.{Fails, Says, Fits, end, more, refusing, order-refused, refused-order, order-by, order-end}
 
 -- a call is its checks in order, and then what it is for
 pub by-checks : (s : State) (c : Call) → step s c ≡ order (checksOf s c) (finalOf s c)
@@ -95,3 +97,37 @@ refused-exactly s c n = (
 -- "state and lent buffers stay as they were"
 pub refused-stays : (s : State) (c : Call) (n : ℕ) → step s c .reply ≡ refused n → step s c .state ≡ s
 refused-stays s c n e = rw by-checks (order-refused s (finalOf s c) n (fits s c) (λ h. free-final s c h n) (rw by-checks at e) .1)
+
+-- a check that holds refuses, or is an abort by a rule
+data Stopped (s : State) : Step → Type 0 where
+  refuses : (n : ℕ) → Stopped s (answers s (refused n))
+  breaks : (n : ℕ) (r : Rule) → Stopped s (record { reply = aborted r; state = ends s n })
+
+breaking : (s : State) (n : ℕ) (r : Certified) → aborts s n r .holds ≡ true → Stopped s (aborts s n r .step)
+breaking s n Whole e = absurd (false≢true e)
+breaking s n (Broken r) e = breaks n r
+
+stopped : (s : State) (c : Call) → Every (λ (k : Check). k .holds ≡ true → Stopped s (k .step)) (checksOf s c)
+unfolding checksOf
+stopped s Start = also (λ e. refuses 3) (also (λ e. refuses 5) none)
+stopped s (Read n k) = also (λ e. refuses 1) (also (λ e. refuses 2) (also (λ e. refuses 4) none))
+stopped s (Note n k o) = also (λ e. refuses 1) (also (λ e. refuses 2) (also (λ e. refuses 8) (also (λ e. refuses 7) (also (λ e. refuses 4) none))))
+stopped s (Write n k v) = also (λ e. refuses 1) (also (λ e. refuses 2) (also (λ e. refuses 4) none))
+stopped s (Tune n k1 k2 k3) = also (λ e. refuses 1) (also (λ e. refuses 9) none)
+stopped s (Distance n i) = also (λ e. refuses 1) (also (λ e. refuses 9) none)
+stopped s (Abort n) = also (λ e. refuses 1) none
+stopped s (Commit n) = also (λ e. refuses 1) (also (breaking s n (certified (s .log) (transaction s n))) (also (λ e. refuses 6) (also (λ e. refuses 5) none)))
+stopped s (Message t) = also (λ e. refuses 18) none
+stopped s (Newest k) = also (λ e. refuses 2) none
+
+-- a step is a refusal, an abort by a rule, or what the call is for
+pub step-cases : (P : Step → Type 0) (s : State) (c : Call) → ((n : ℕ) → P (answers s (refused n)))
+    → ((n : ℕ) (r : Rule) → P (record { reply = aborted r; state = ends s n })) → P (finalOf s c) → P (step s c)
+step-cases P s c not-taken broke final = rw by-checks (go (stopped s c))
+  where
+    stop : {d : Step} → Stopped s d → P d
+    stop (refuses n) = not-taken n
+    stop (breaks n r) = broke n r
+    go : {cs : List Check} → Every (λ (k : Check). k .holds ≡ true → Stopped s (k .step)) cs → P (order cs (finalOf s c))
+    go none = order-end P (finalOf s c) final
+    go (also {x = k} {xs = ks} h hs) = order-by P k ks (finalOf s c) (λ e. stop (h e)) (λ e. go hs)

@@ -8,3 +8,4 @@ pub mod Checks
 pub mod Ending
 pub mod Kept
 pub mod Reached
+pub mod Clock
