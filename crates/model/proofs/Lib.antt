@@ -11,3 +11,5 @@ pub mod Stands
 pub mod Seats
 pub mod Reached
 pub mod Clock
+pub mod Signed
+pub mod Snapshot

@@ -9,3 +9,4 @@ pub mod Ending
 pub mod Kept
 pub mod Reached
 pub mod Clock
+pub mod Snapshot
