@@ -1,7 +1,7 @@
 -- The clock goes on by one with each stamp taken and by none otherwise, so "a name never returns". Every state is taken.
 use Prim.Native.Nat.{ℕ, suc, _≤_, _<_}
 use native.Mathlib.Omega.{arith}
-use mathlib.Core.Path.{_≡_, refl, sym, _∙_, subst}
+use mathlib.Core.Path.{_≡_, refl, sym, _∙_}
 use mathlib.Core.List.{List, [], _∷_}
 use Rattle.units.specs.declared.Found.{Found}
 use Rattle.units.specs.declared.Found.the-variants.{At, Absent}
@@ -11,7 +11,7 @@ use Rattle.transaction.specs.Transaction.{pendingOf}
 use Rattle.model.specs.Log.{lookUp}
 use Rattle.model.specs.State.{State, transaction}
 use Rattle.model.specs.Call.{Call, Start, Read, Note, Write, Tune, Distance, Abort, Commit, Message, Newest, Reply, refused, started, version, own, done, apartBy, committed, aborted, made, madeBy}
-use Rattle.model.specs.Step.{Step, step, reads, notes}
+use Rattle.model.specs.Step.{step, reads, notes}
 use Rattle.model.specs.Session.{reached}
 use Rattle.model.specs.Checks.{finalOf}
 use Rattle.model.specs.Clock.{Takes, Clocked, takes, stays}

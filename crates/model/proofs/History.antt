@@ -2,21 +2,20 @@
 use Prim.Native.Nat.{ℕ, suc, _+_, _≤_, _<_}
 use native.Mathlib.Omega.{arith}
 use mathlib.Core.Path.{_≡_, refl, sym, _∙_, ap}
-use mathlib.Core.Logic.{_≢_, _⊎_, inl, inr}
-use mathlib.Core.Bool.{Bool, true, false, cond, _&&_, false≢true}
-use mathlib.Core.List.{List, [], _∷_, map}
+use mathlib.Core.Bool.{Bool, true, false, cond, _&&_}
+use mathlib.Core.List.{List, [], _∷_}
 use lib.Dec.{eqb, leb}
 use lib.ListN.{length}
-use borrow.Author.Tests.{eqb-true, eqb-false, eq-eqb, ne-eqb, le-leb, lt-leb, leb-true, leb-false}
+use borrow.Author.Tests.{eqb-true, eq-eqb, le-leb, lt-leb, leb-true, leb-false}
 use Rattle.lists.specs.Lists.{count, Every, none, also}
-use Rattle.lists.specs.Members.{In, here, below, Distinct, empty, apart}
+use Rattle.lists.specs.Members.{In, here, below, Distinct, apart}
 use Rattle.lists.proofs.Every.{every-map, every-both}
 use Rattle.lists.proofs.Members.{every-in, in-every}
 use Rattle.lists.proofs.Count.{count-mono, count-more, count-none}
 use Rattle.model.proofs.Counts.{and-false}
 use Rattle.transaction.specs.declared.Write.{Write}
 use Rattle.model.specs.Log.{Entry, ofKey, upTo, versions, next, installed, newest, versionOf}
-use Rattle.model.specs.Reached.{Writes, keysOf, Grown, bare, grew, Chain, base, link}
+use Rattle.model.specs.Reached.{keysOf, Grown, bare, grew, Chain, base, link}
 
 upTo-tests : (log : List Entry) (x : ℕ) {t u : ℕ} → t ≤ u
     → Every (λ (e : Entry). (ofKey x e && leb (e .stamp) t) ≡ true → (ofKey x e && leb (e .stamp) u) ≡ true) log

@@ -13,3 +13,5 @@ pub mod Reached
 pub mod Clock
 pub mod Signed
 pub mod Snapshot
+pub mod Granted
+pub mod Distances

@@ -1,21 +1,19 @@
 -- What a commit makes: "Commit installs the written keys in the order of first writing, all with the commit's stamp, each with its key's
 -- next ordinal"; and so "Each commit that wrote something has one message" of 1 to 16 versions, no key twice.
-use Prim.Native.Nat.{ℕ, suc, _+_, _≤_, _<_}
+use Prim.Native.Nat.{ℕ, _≤_, _<_}
 use native.Mathlib.Omega.{arith}
 use native.Mathlib.Decide.{ℕ-discrete}
 use mathlib.Core.Path.{_≡_, refl, sym, _∙_, ap}
 use mathlib.Core.Logic.{_≢_}
-use mathlib.Core.Bool.{Bool, true, false, cond}
 use mathlib.Core.List.{List, [], _∷_, _++_, map, append-nil, append-assoc}
-use lib.Dec.{eqb}
 use lib.ListN.{length, length-map}
 use borrow.Author.Tests.{eq-eqb, ne-eqb}
 use Rattle.lists.specs.Lists.{count, Every, none, also}
 use Rattle.lists.specs.Members.{Distinct, empty, apart}
 use Rattle.lists.proofs.Every.{every-map}
 use Rattle.transaction.specs.declared.Write.{Write}
-use Rattle.model.specs.Log.{Entry, ofKey, versions, next, installed, madeAt}
-use Rattle.model.specs.Reached.{Writes, keysOf, Grown, bare, grew, OneCommit}
+use Rattle.model.specs.Log.{Entry, versions, next, installed, madeAt}
+use Rattle.model.specs.Reached.{keysOf, Grown, bare, grew, OneCommit}
 use Rattle.model.proofs.History.{chain, chain-stamps}
 
 -- a version of another key does not change the next ordinal

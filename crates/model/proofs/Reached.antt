@@ -2,19 +2,18 @@
 use Prim.Native.Nat.{ℕ, suc, _+_, _≤_, _<_, max}
 use native.Mathlib.Omega.{arith}
 use native.Mathlib.Decide.{ℕ-discrete}
-use mathlib.Core.Path.{_≡_, refl, sym, _∙_, ap, subst}
+use mathlib.Core.Path.{_≡_, refl, sym, _∙_}
 use mathlib.Core.Logic.{_≢_}
 use mathlib.Core.Bool.{Bool, true, false, cond, not, _&&_, false≢true}
 use mathlib.Core.List.{List, [], _∷_}
 use lib.Dec.{eqb, leb, ltb}
 use lib.IntN.{ℤ}
-use lib.ListN.{length, getD, set, replicate, length-set, getD-replicate, List·getD-eq-default}
+use lib.ListN.{length, getD, set, replicate, length-set, List·getD-eq-default}
 use lib.Seq.{getD-set-same, getD-set-other}
 use borrow.Author.Tests.{leb-true, leb-false, ltb-false, eqb-true, eqb-false}
-use Rattle.lists.specs.Lists.{find, Every, none, also}
-use Rattle.lists.specs.Members.{In}
+use Rattle.lists.specs.Lists.{Every, none, also}
 use Rattle.lists.proofs.Find.{find-holds}
-use Rattle.lists.proofs.Every.{every-map, every-at, every-set, at-every}
+use Rattle.lists.proofs.Every.{every-map, every-at, every-set}
 use Rattle.units.specs.Bounds.{triple}
 use Rattle.units.specs.declared.Version.{Version}
 use Rattle.units.specs.declared.Found.{Found}
@@ -26,13 +25,13 @@ use Rattle.transaction.specs.declared.Transaction.{Transaction}
 use Rattle.transaction.specs.declared.Pending.{Pending}
 use Rattle.transaction.specs.declared.Pending.the-variants.{Value, Nothing}
 use Rattle.transaction.specs.Transaction.{fresh, tuned, ended, recorded, written, wroteAt, pendingOf, writesOf}
-use Rattle.model.specs.Log.{Entry, newest, lookUp, installed}
+use Rattle.model.specs.Log.{newest, lookUp}
 use Rattle.model.specs.Rules.{certified}
 use Rattle.model.specs.State.{State, opened, noTransaction, goesBy, placeOf, nobody, transaction, freePlace, withTransaction}
 use Rattle.model.specs.Call.{Call, Start, Read, Note, Write, Tune, Distance, Abort, Commit, Message, Newest}
-use Rattle.model.specs.Step.{Step, step, order, starts, reads, notes, marked, records, noKey, spent, readsFull, hasWritten, isAbsent, ends, aborts, commits}
+use Rattle.model.specs.Step.{Step, step, starts, reads, notes, marked, records, noKey, readsFull, hasWritten, ends, aborts, commits}
 use Rattle.model.specs.Session.{reached}
-use Rattle.model.specs.Reached.{Good, Seated, Stands, Recorded, Grown, bare, grew, Chain}
+use Rattle.model.specs.Reached.{Good, Seated, Stands, bare, grew}
 use Rattle.model.proofs.Order.{order-by, order-end}
 use Rattle.model.proofs.History.{chain, chain-from, grown-later, length-installed}
 use Rattle.model.proofs.Stands.{in-installed, stands-newest, stands-found}

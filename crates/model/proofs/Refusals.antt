@@ -128,6 +128,7 @@ step-cases P s c not-taken broke final = rw by-checks (go (stopped s c))
     stop : {d : Step} → Stopped s d → P d
     stop (refuses n) = not-taken n
     stop (breaks n r) = broke n r
+
     go : {cs : List Check} → Every (λ (k : Check). k .holds ≡ true → Stopped s (k .step)) cs → P (order cs (finalOf s c))
     go none = order-end P (finalOf s c) final
     go (also {x = k} {xs = ks} h hs) = order-by P k ks (finalOf s c) (λ e. stop (h e)) (λ e. go hs)

@@ -1,18 +1,18 @@
 -- What a transaction's steps keep of it: its arrays, its recorded reads, its written keys.
-use Prim.Native.Nat.{ℕ, suc, _+_, _≤_, _<_, min, max}
+use Prim.Native.Nat.{ℕ, suc, _+_, _≤_, _<_, max}
 use native.Mathlib.Omega.{arith}
 use native.Mathlib.Numerals.{add-one}
-use mathlib.Core.Path.{_≡_, refl, sym, _∙_, ap, subst}
+use mathlib.Core.Path.{_≡_, refl, sym, _∙_, ap}
 use mathlib.Core.Logic.{_≢_}
-use mathlib.Core.Bool.{Bool, true, false, cond, false≢true}
-use mathlib.Core.List.{List, [], _∷_, _++_, map}
-use lib.Dec.{eqb, ltb}
+use mathlib.Core.Bool.{Bool, true, false, false≢true}
+use mathlib.Core.List.{List, [], _∷_, _++_}
+use lib.Dec.{ltb}
 use lib.IntN.{ℤ}
-use lib.ListN.{length, getD, take, set, length-set, length-take, length-append, length-map}
+use lib.ListN.{length, getD, take, set, length-set, length-take, length-append}
 use lib.Seq.{take-suc-set, take-set-lt, map-set-same}
 use borrow.Author.Tests.{lt-ltb, ltb-true, ltb-false, eqb-true, eqb-false}
-use Rattle.lists.specs.Lists.{find, Every, none, also}
-use Rattle.lists.specs.Members.{In, Distinct, empty}
+use Rattle.lists.specs.Lists.{Every, none, also}
+use Rattle.lists.specs.Members.{In, empty}
 use Rattle.lists.proofs.Find.{find-le, find-holds}
 use Rattle.lists.proofs.Every.{every-map, every-append, none-found}
 use Rattle.lists.proofs.Members.{distinct-snoc}
@@ -20,9 +20,9 @@ use Rattle.units.specs.declared.Bounds.{Bounds}
 use Rattle.transaction.specs.declared.Mark.{Mark}
 use Rattle.transaction.specs.declared.Write.{Write}
 use Rattle.transaction.specs.declared.Transaction.{Transaction}
-use Rattle.transaction.specs.Transaction.{fresh, tuned, ended, recorded, written, wroteAt, isKey, readsOf, writesOf, noWrite}
+use Rattle.transaction.specs.Transaction.{fresh, tuned, ended, recorded, written, wroteAt, isKey, writesOf, noWrite}
 use Rattle.model.specs.Log.{Entry}
-use Rattle.model.specs.Reached.{Writes, keysOf, Recorded, Underway, Seated}
+use Rattle.model.specs.Reached.{Writes, keysOf, Recorded, Seated}
 use Rattle.model.proofs.Stands.{stands-more}
 
 no-writes : Writes []
@@ -127,6 +127,7 @@ module _ (t : Transaction) (k : ℕ) (v : ℤ) (sized : length (t .writes) ≡ 1
           let b : wroteAt t k < length (writesOf t) = rw counted h in
           rw (a, take-set-lt (t .written) (t .writes) (wroteAt t k) (wrote k v) h)
           (writes-again (wroteAt t k) k v w (eqb-true (getD (writesOf t) (wroteAt t k) noWrite .key) k (find-holds (isKey k) (writesOf t) noWrite b)))
+
       one-more : wroteAt t k ≡ t .written → Writes (take (max (t .written) (wroteAt t k + 1)) (set (t .writes) (wroteAt t k) (wrote k v)))
       one-more e =
           let a : max (t .written) (t .written + 1) ≡ suc (t .written) = omega arith in
@@ -134,6 +135,7 @@ module _ (t : Transaction) (k : ℕ) (v : ℤ) (sized : length (t .writes) ≡ 1
           let c : length (writesOf t) ≤ wroteAt t k = rw (counted, e) (omega arith) in
           rw (e, a, take-suc-set (t .writes) (t .written) (wrote k v) b)
           (writes-more k v w (rw counted (omega arith)) l (none-found (isKey k) (writesOf t) c))
+
       go : (b : Bool) → ltb (wroteAt t k) (t .written) ≡ b → Writes (take (max (t .written) (wroteAt t k + 1)) (set (t .writes) (wroteAt t k) (wrote k v)))
       go true h = again (ltb-true _ _ h)
       go false h = let p = find-le (isKey k) (writesOf t) in let q : t .written ≤ wroteAt t k = ltb-false _ _ h in one-more (omega (arith, counted))

@@ -2,11 +2,11 @@
 use Prim.Native.Nat.{ℕ, suc, _+_, _-_, _≤_, _<_}
 use native.Mathlib.Omega.{arith}
 use native.Mathlib.Nat.{add-zero}
-use mathlib.Core.Path.{_≡_, refl, sym, subst}
+use mathlib.Core.Path.{_≡_, refl}
 use mathlib.Core.Logic.{_↔_}
 use mathlib.Core.Bool.{Bool, true, false, cond}
-use lib.Dec.{T, ltb, leb, ltb→lt, lt→ltb, leb→le, le→leb}
-use lib.IntN.{ℤ, pos, negsuc, negℤ, subℕ, _-ℤ_}
+use lib.Dec.{T, ltb, ltb→lt, lt→ltb, leb→le, le→leb}
+use lib.IntN.{pos, negsuc, negℤ, _-ℤ_}
 use lib.Signed.{ltZ, leZ, _<ℤ_, _≤ℤ_}
 use borrow.Author.Tests.{ltb-true, ltb-false}
 

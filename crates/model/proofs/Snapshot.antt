@@ -1,16 +1,16 @@
 -- Demand 2: "Bounds (1, 0, any) give the read and write rules of snapshot isolation, no less and no more."
 use Prim.Native.Nat.{ℕ, suc, _+_, _≤_, _<_}
 use native.Mathlib.Omega.{arith}
-use mathlib.Core.Path.{_≡_, refl, sym, _∙_, ap}
+use mathlib.Core.Path.{_≡_, refl, ap}
 use mathlib.Core.Logic.{_↔_, _⊎_, inl, inr, _≢_}
-use mathlib.Core.Bool.{Bool, true, false, _&&_, false≢true}
-use mathlib.Core.List.{List, [], _∷_}
+use mathlib.Core.Bool.{Bool, true, false, _&&_}
+use mathlib.Core.List.{List}
 use lib.Dec.{leb, eqb}
 use lib.ListN.{length}
 use borrow.Author.Tests.{leb-true, leb-false, le-leb, eqb-true}
-use Rattle.lists.specs.Lists.{count, Every, none, also}
+use Rattle.lists.specs.Lists.{Every, none, also}
 use Rattle.lists.specs.Members.{In}
-use Rattle.lists.proofs.Every.{every-map, every-both}
+use Rattle.lists.proofs.Every.{every-map}
 use Rattle.lists.proofs.Members.{in-every}
 use Rattle.lists.proofs.Count.{count-le, count-mono}
 use Rattle.units.specs.Bounds.{snapshot}
@@ -18,12 +18,12 @@ use Rattle.units.specs.declared.Bounds.{Bounds}
 use Rattle.transaction.specs.declared.Mark.{Mark}
 use Rattle.transaction.specs.declared.Transaction.{Transaction}
 use Rattle.transaction.specs.Transaction.{readsOf, writesOf}
-use Rattle.model.specs.Log.{Entry, ofKey, upTo, between}
+use Rattle.model.specs.Log.{Entry, upTo, between}
 use Rattle.model.specs.Rules.{distance, KeepsBV, KeepsFV, KeepsSV, KeepsWC}
 use Rattle.model.specs.State.{State, nobody, transaction}
 use Rattle.model.specs.Call.{Commit, committed}
 use Rattle.model.specs.Step.{step}
-use Rattle.model.specs.Kept.{Kept, Grantable, WithinBV, WithinFV}
+use Rattle.model.specs.Kept.{Kept, WithinBV, WithinFV}
 use Rattle.model.specs.Reached.{Good, Stands, loaded, stored}
 use Rattle.model.specs.Snapshot.{NewestAt, Snapshot}
 use Rattle.model.proofs.History.{upTo-mono, upTo-more}
@@ -43,6 +43,7 @@ module _ (log : List Entry) (s : ℕ) (x : Mark) where
           go : (b : Bool) → leb (f .stamp) s ≡ b → x .stamp .0 ≤ s
           go true h = omega (arith, leb-true)
           go false h = absurd (let m = upTo-more (x .key) s (x .stamp .0) i k (leb-false _ _ h) (omega arith) in omega arith)
+
       other : (f : Entry) → In f log → f .key ≡ x .key → (a : Bool) → leb (f .stamp) (x .stamp .0) ≡ a → (b : Bool) → leb (f .stamp) s ≡ b → (f .stamp ≤ x .stamp .0) ⊎ (s < f .stamp)
       other f i q true h b k = inl (leb-true _ _ h)
       other f i q false h true k = absurd (let m = upTo-more (x .key) (x .stamp .0) s i q (leb-false _ _ h) (leb-true _ _ k) in omega arith)
@@ -85,9 +86,10 @@ module _ (log : List Entry) (t : Transaction) (one : t .bounds .k1 ≡ 1) (zero 
 
   -- snapshot read is BV with FV, and snapshot write is WC
   pub snapshot-rules : Every (Stands log) (readsOf t) → (KeepsBV log t × KeepsFV log t × KeepsWC log t) ↔ Snapshot log t
-  snapshot-rules st =
-      (λ k. record { reads = within st (k .0) (k .1); writes = k .2 },
-      λ r. (every-map newest-bv (r .reads), every-map newest-fv (r .reads), r .writes))
+  snapshot-rules st = (
+    λ k. record { reads = within st (k .0) (k .1); writes = k .2 },
+    λ r. (every-map newest-bv (r .reads), every-map newest-fv (r .reads), r .writes),
+  )
 
 -- "65,535 is called any ..; no count here reaches it"
 pub between-few : (log : List Entry) (x a b : ℕ) → length log ≤ 4096 → between log x a b ≤ 4096
@@ -115,14 +117,16 @@ module _ {opening : ℕ} (s : State) (g : Good opening s) (n : ℕ) (known : nob
     -- the four rules under (1, 0, any) are the two of snapshot isolation
     pub snapshot-exactly : Kept (s .log) (transaction s n) ↔ Snapshot (s .log) (transaction s n)
     snapshot-exactly =
-        let r = snapshot-rules (s .log) (transaction s n) one zero reads-stand in
-        (λ k. r .0 (k .bv, k .fv, k .wc),
-        λ p. let q = r .1 p in record { bv = q .0; fv = q .1; sv = all-pairs (s .log) (transaction s n) (g .room) (omega (arith, any)); wc = q .2 })
+        let r = snapshot-rules (s .log) (transaction s n) one zero reads-stand in (
+          λ k. r .0 (k .bv, k .fv, k .wc),
+          λ p. let q = r .1 p in record { bv = q .0; fv = q .1; sv = all-pairs (s .log) (transaction s n) (g .room) (omega (arith, any)); wc = q .2 },
+        )
 
     -- so a commit under them is granted exactly under snapshot isolation, where log and clock have room
     pub snapshot-granted : (step s (Commit n) .reply ≡ committed (suc (s .clock)))
         ↔ (Snapshot (s .log) (transaction s n) × (length (s .log) + length (writesOf (transaction s n)) ≤ 4096) × (s .clock ≢ 4294967295))
     snapshot-granted =
-        let e = granted-exactly s n (suc (s .clock)) in
-        (λ h. let k = e .0 h .0 in (snapshot-exactly .0 (k .kept), k .room, k .ticks),
-        λ h. e .1 (record { known = known; kept = snapshot-exactly .1 (h .0); room = h .1; ticks = h .2 }, refl))
+        let e = granted-exactly s n (suc (s .clock)) in (
+          λ h. let k = e .0 h .0 in (snapshot-exactly .0 (k .kept), k .room, k .ticks),
+          λ h. e .1 (record { known = known; kept = snapshot-exactly .1 (h .0); room = h .1; ticks = h .2 }, refl),
+        )

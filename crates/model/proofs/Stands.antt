@@ -1,5 +1,5 @@
 -- A version that a read answers stands in the log, or is the start version; and its count up to its stamp is its ordinal.
-use Prim.Native.Nat.{ℕ, suc, _≤_, _<_}
+use Prim.Native.Nat.{ℕ, _≤_}
 use native.Mathlib.Omega.{arith}
 use mathlib.Core.Path.{_≡_, refl, sym, _∙_, ap}
 use mathlib.Core.Bool.{Bool, true, false, cond, _&&_}
@@ -9,8 +9,7 @@ use borrow.Author.Tests.{eqb-true}
 use Rattle.lists.specs.Members.{In, here, below}
 use Rattle.lists.proofs.Members.{every-in}
 use Rattle.units.specs.declared.Version.{Version}
-use Rattle.units.specs.declared.Found.{Found}
-use Rattle.units.specs.declared.Found.the-variants.{At, Absent}
+use Rattle.units.specs.declared.Found.the-variants.{At}
 use Rattle.transaction.specs.declared.Mark.{Mark}
 use Rattle.transaction.specs.declared.Write.{Write}
 use Rattle.model.specs.Log.{Entry, versionOf, startVersion, upTo, next, newest, logged, lookUp, installed}
