@@ -11,7 +11,7 @@ use Rattle.lists.specs.Lists.{count, Every, none, also}
 use Rattle.lists.specs.Members.{In, here, below, Distinct, apart}
 use Rattle.lists.proofs.Every.{every-map, every-both}
 use Rattle.lists.proofs.Members.{every-in, in-every}
-use Rattle.lists.proofs.Count.{count-mono, count-more, count-none}
+use Rattle.lists.proofs.Count.{count-le, count-mono, count-more, count-none}
 use Rattle.model.proofs.Counts.{and-false}
 use Rattle.transaction.specs.declared.Write.{Write}
 use Rattle.model.specs.Log.{Entry, ofKey, upTo, versions, next, installed, newest, versionOf}
@@ -131,7 +131,10 @@ module _ {opening : ℕ} where
   stamps-rise {log = log} {e} {f} c i j q h = go (leb (f .stamp) (e .stamp)) refl
     where
       go : (b : Bool) → leb (f .stamp) (e .stamp) ≡ b → e .stamp < f .stamp
-      go true l = absurd (let m : upTo log (f .key) (f .stamp) ≤ upTo log (f .key) (e .stamp) = upTo-mono log (f .key) (leb-true _ _ l) in let a = ordinal-counts c i in let b = ordinal-counts c j in let z : upTo log (e .key) (e .stamp) ≡ upTo log (f .key) (e .stamp) = ap (λ (k : ℕ). upTo log k (e .stamp)) q in omega arith)
+      go true l =
+          let m : upTo log (f .key) (f .stamp) ≤ upTo log (f .key) (e .stamp) = upTo-mono log (f .key) (leb-true _ _ l) in
+          let z : upTo log (e .key) (e .stamp) ≡ upTo log (f .key) (e .stamp) = ap (λ (k : ℕ). upTo log k (e .stamp)) q in
+          absurd (omega (arith, ordinal-counts c i, ordinal-counts c j))
       go false l = leb-false _ _ l
 
   -- key and ordinal name one version
@@ -152,3 +155,12 @@ module _ {opening : ℕ} where
       go : (t : Bool) → eqb (e .key) x ≡ t → newest es x .ordinal .0 ≡ versions es x → (cond t (versionOf e) (newest es x)) .ordinal .0 ≡ cond t (suc (versions es x)) (versions es x)
       go true q r = o ∙ ap (λ (k : ℕ). suc (versions es k)) (eqb-true _ _ q)
       go false q r = r
+
+  -- "Ordinals here are 1 to 4,096": at least 1, and at most as many as the log has versions
+  pub ordinal-range : {clock : ℕ} {log : List Entry} {e : Entry} → Chain opening clock log → In e log → (1 ≤ e .ordinal) × (e .ordinal ≤ length log)
+  unfolding upTo
+  ordinal-range {log = log} {e = e} c i =
+      let a : upTo log (e .key) 0 < upTo log (e .key) (e .stamp) = upTo-more (e .key) 0 (e .stamp) i refl (let s = every-in (chain-stamps c) i in omega arith) (omega arith) in
+      let b : upTo log (e .key) (e .stamp) ≤ length log = count-le _ log in
+      let o = ordinal-counts c i in
+      (omega arith, omega arith)

@@ -15,3 +15,5 @@ pub mod Signed
 pub mod Snapshot
 pub mod Granted
 pub mod Distances
+pub mod Uncharged
+pub mod Sent

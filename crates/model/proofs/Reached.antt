@@ -1,5 +1,5 @@
 -- Every state that a session reaches is good: the opening is, and every call keeps it so.
-use Prim.Native.Nat.{ℕ, suc, _+_, _≤_, _<_, max}
+use Prim.Native.Nat.{ℕ, suc, _+_, _≤_, _<_}
 use native.Mathlib.Omega.{arith}
 use native.Mathlib.Decide.{ℕ-discrete}
 use mathlib.Core.Path.{_≡_, refl, sym, _∙_}
@@ -37,9 +37,12 @@ use Rattle.model.proofs.History.{chain, chain-from, grown-later, length
 use Rattle.model.proofs.Stands.{in-installed, stands-newest, stands-found}
 use Rattle.model.proofs.Seats.{seated-more, seated-fresh, seated-ended, seated-tuned, seated-recorded, seated-written}
 
+abbrev at : List Transaction → ℕ → Transaction
+at ps i = getD ps i noTransaction
+
 -- two places with open transactions of one name are one place
 abbrev Names : List Transaction → Type 0
-Names ps = (i j : ℕ) → getD ps i noTransaction .live ≡ true → getD ps j noTransaction .live ≡ true → getD ps i noTransaction .name .0 ≡ getD ps j noTransaction .name .0 → i ≡ j
+Names ps = (i j : ℕ) → at ps i .live ≡ true → at ps j .live ≡ true → at ps i .name .0 ≡ at ps j .name .0 → i ≡ j
 
 -- what stands at j after i was set
 set-cases : {A : Type 0} (P : ℕ → A → Type 0) (l : List A) (i : ℕ) (a d : A) → i < length l → P i a → ((j : ℕ) → j ≢ i → P j (getD l j d)) → (j : ℕ) → P j (getD (set l i a) j d)
@@ -51,43 +54,43 @@ set-cases P l i a d h p f j = go (ℕ-discrete j i)
 
 module _ (ps : List Transaction) (i : ℕ) (t : Transaction) (h : i < length ps) where
   -- a transaction that keeps its name, or ends, leaves the names apart
-  names-kept : (t .live ≡ true → getD ps i noTransaction .live ≡ true) → t .name .0 ≡ getD ps i noTransaction .name .0 → Names ps → Names (set ps i t)
+  names-kept : (t .live ≡ true → at ps i .live ≡ true) → t .name .0 ≡ at ps i .name .0 → Names ps → Names (set ps i t)
   names-kept l e ns j k a b c = ns j k (same j .0 a) (same k .0 b) (sym (same j .1) ∙ c ∙ same k .1)
     where
-      same : (j : ℕ) → (getD (set ps i t) j noTransaction .live ≡ true → getD ps j noTransaction .live ≡ true) × (getD (set ps i t) j noTransaction .name .0 ≡ getD ps j noTransaction .name .0)
-      same = set-cases (λ (j : ℕ) (u : Transaction). (u .live ≡ true → getD ps j noTransaction .live ≡ true) × (u .name .0 ≡ getD ps j noTransaction .name .0)) ps i t noTransaction h (l, e) (λ j n. (λ x. x, refl))
+      Same : ℕ → Transaction → Type 0
+      Same j u = (u .live ≡ true → at ps j .live ≡ true) × (u .name .0 ≡ at ps j .name .0)
+      same : (j : ℕ) → Same j (at (set ps i t) j)
+      same = set-cases Same ps i t noTransaction h (l, e) (λ j n. (λ x. x, refl))
 
-  -- so does one with a name that no open transaction has
-  names-fresh : ((j : ℕ) → getD ps j noTransaction .live ≡ true → getD ps j noTransaction .name .0 < t .name .0) → Names ps → Names (set ps i t)
+  -- so does one with a name above those of all that are open
+  names-fresh : ((j : ℕ) → at ps j .live ≡ true → at ps j .name .0 < t .name .0) → Names ps → Names (set ps i t)
   names-fresh old ns =
-      set-cases (λ (j : ℕ) (u : Transaction). (k : ℕ) → u .live ≡ true → getD (set ps i t) k noTransaction .live ≡ true → u .name .0 ≡ getD (set ps i t) k noTransaction .name .0 → j ≡ k)
-      ps i t noTransaction h
-      (set-cases (λ (k : ℕ) (u : Transaction). t .live ≡ true → u .live ≡ true → t .name .0 ≡ u .name .0 → i ≡ k) ps i t noTransaction h (λ a b c. refl) (λ k n a b c. absurd (let z = old k b in omega arith)))
-      (λ j n. set-cases (λ (k : ℕ) (u : Transaction). getD ps j noTransaction .live ≡ true → u .live ≡ true → getD ps j noTransaction .name .0 ≡ u .name .0 → j ≡ k) ps i t noTransaction h
-      (λ a b c. absurd (let z = old j a in omega arith)) (λ k m a b c. ns j k a b c))
+      set-cases (λ (j : ℕ) (u : Transaction). (k : ℕ) → Apart j u k (at (set ps i t) k)) ps i t noTransaction h
+      (set-cases (Apart i t) ps i t noTransaction h (λ a b c. refl) (λ k n a b c. absurd (let z = old k b in omega arith)))
+      (λ j n. set-cases (Apart j (at ps j)) ps i t noTransaction h (λ a b c. absurd (let z = old j a in omega arith)) (λ k m a b c. ns j k a b c))
+    where
+      Apart : ℕ → Transaction → ℕ → Transaction → Type 0
+      Apart j u k w = u .live ≡ true → w .live ≡ true → u .name .0 ≡ w .name .0 → j ≡ k
+
+-- a step of a transaction on itself that may do nothing keeps its name
+name-kept : (b : Bool) (u t : Transaction) → u .name .0 ≡ t .name .0 → (cond b u t) .name .0 ≡ t .name .0
+name-kept true u t e = e
+name-kept false u t e = refl
 
 recorded-name : (t : Transaction) (m : Mark) → recorded t m .name .0 ≡ t .name .0
 unfolding recorded
-recorded-name t m = go (ltb (t .recorded) 16)
-  where
-    go : (b : Bool) → (cond b (record { name = t .name; live = t .live; bounds = t .bounds; reads = set (t .reads) (t .recorded) m; recorded = t .recorded + 1; writes = t .writes; written = t .written }) t) .name .0 ≡ t .name .0
-    go true = refl
-    go false = refl
+recorded-name t m = name-kept (ltb (t .recorded) 16) _ t refl
 
 written-name : (t : Transaction) (k : ℕ) (v : ℤ) → written t k v .name .0 ≡ t .name .0
 unfolding written
-written-name t k v = go (ltb (wroteAt t k) 16)
-  where
-    go : (b : Bool) → (cond b (record { name = t .name; live = t .live; bounds = t .bounds; reads = t .reads; recorded = t .recorded; writes = set (t .writes) (wroteAt t k) (record { key = k; value = v }); written = max (t .written) (wroteAt t k + 1) }) t) .name .0 ≡ t .name .0
-    go true = refl
-    go false = refl
+written-name t k v = name-kept (ltb (wroteAt t k) 16) _ t refl
 
 module _ {opening : ℕ} (s : State) (g : Good opening s) where
   -- every open name is at most the clock
-  pub names-told : (j : ℕ) → getD (s .place) j noTransaction .live ≡ true → getD (s .place) j noTransaction .name .0 ≤ s .clock
+  pub names-told : (j : ℕ) → at (s .place) j .live ≡ true → at (s .place) j .name .0 ≤ s .clock
   names-told j l = go (leb (length (s .place)) j) refl
     where
-      go : (b : Bool) → leb (length (s .place)) j ≡ b → getD (s .place) j noTransaction .name .0 ≤ s .clock
+      go : (b : Bool) → leb (length (s .place)) j ≡ b → at (s .place) j .name .0 ≤ s .clock
       go true e = rw (List·getD-eq-default (s .place) noTransaction (leb-true _ _ e)) (omega arith)
       go false e = every-at noTransaction (g .seated) j (leb-false _ _ e) .underway l .started
 
