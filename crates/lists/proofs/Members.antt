@@ -1,7 +1,7 @@
 -- What holds of every one in a list holds of each that stands in it; and lists with no number twice.
 use Prim.Native.Nat.{ℕ, zero, suc, _<_}
 use native.Mathlib.Omega.{arith}
-use mathlib.Core.Path.{sym}
+use mathlib.Core.Path.{_≡_, refl, sym}
 use mathlib.Core.Logic.{_≢_, _⊎_, inl, inr}
 use mathlib.Core.List.{List, [], _∷_, _++_, map}
 use lib.ListN.{length, getD}
@@ -26,6 +26,25 @@ module _ {A : Type 0} where
   in-append [] r i = inr i
   in-append (y ∷ l) r here = inl here
   in-append (y ∷ l) r (below i) = elim (in-append l r i) [ inl h ↦ inl (below h) | inr h ↦ inr h ]
+
+  pub in-nothing : {x : A} → In x [] → ⊥
+  in-nothing i = go i refl
+    where
+      go : {x : A} {l : List A} → In x l → length l ≡ 0 → ⊥
+      go here e = omega arith
+      go (below j) e = omega arith
+
+  pub in-one : {x y : A} → In x (y ∷ []) → x ≡ y
+  in-one here = refl
+  in-one (below i) = absurd (in-nothing i)
+
+  pub in-left : {x : A} {l : List A} (r : List A) → In x l → In x (l ++ r)
+  in-left r here = here
+  in-left r (below i) = below (in-left r i)
+
+  pub in-right : {x : A} (l : List A) {r : List A} → In x r → In x (l ++ r)
+  in-right [] i = i
+  in-right (y ∷ l) i = below (in-right l i)
 
   pub in-map : {B : Type 0} (f : A → B) {x : A} {l : List A} → In x l → In (f x) (map f l)
   in-map f here = here

@@ -1,21 +1,23 @@
 -- A log that is a history of whole commits, read version by version: stamps, ordinals, and what the counts of document 01 come to in it.
 use Prim.Native.Nat.{ℕ, suc, _+_, _≤_, _<_}
 use native.Mathlib.Omega.{arith}
+use mathlib.Core.Logic.{_≢_}
 use mathlib.Core.Path.{_≡_, refl, sym, _∙_, ap}
 use mathlib.Core.Bool.{Bool, true, false, cond, _&&_}
 use mathlib.Core.List.{List, [], _∷_}
 use lib.Dec.{eqb, leb}
 use lib.ListN.{length}
-use borrow.Author.Tests.{eqb-true, eq-eqb, le-leb, lt-leb, leb-true, leb-false}
+use borrow.Author.Tests.{eqb-true, eqb-false, eq-eqb, le-leb, lt-leb, leb-true, leb-false}
 use Rattle.lists.specs.Lists.{count, Every, none, also}
 use Rattle.lists.specs.Members.{In, here, below, Distinct, apart}
 use Rattle.lists.proofs.Every.{every-map, every-both}
 use Rattle.lists.proofs.Members.{every-in, in-every}
 use Rattle.lists.proofs.Count.{count-le, count-mono, count-more, count-none}
 use Rattle.model.proofs.Counts.{and-false}
+use Rattle.units.specs.declared.Version.{Version}
 use Rattle.transaction.specs.declared.Write.{Write}
 use Rattle.model.specs.Log.{Entry, ofKey, upTo, versions, next, installed, newest, versionOf}
-use Rattle.model.specs.Reached.{keysOf, Grown, bare, grew, Chain, base, link}
+use Rattle.model.specs.Reached.{keysOf, Grown, bare, grew, Chain, base, link, NewestOf, start, last}
 
 upTo-tests : (log : List Entry) (x : ℕ) {t u : ℕ} → t ≤ u
     → Every (λ (e : Entry). (ofKey x e && leb (e .stamp) t) ≡ true → (ofKey x e && leb (e .stamp) u) ≡ true) log
@@ -156,6 +158,19 @@ module _ {opening : ℕ} where
       go true q r = o ∙ ap (λ (k : ℕ). suc (versions es k)) (eqb-true _ _ q)
       go false q r = r
 
+  pub newest-is : {clock : ℕ} {log : List Entry} → Chain opening clock log → (x : ℕ) → NewestOf log x (newest log x)
+  unfolding newest
+  newest-is (base h) x = start none
+  newest-is (link {e = e} {es = es} a b k o s c) x = go (eqb (e .key) x) refl (newest-is c x)
+    where
+      later : {v : Version} → e .key ≢ x → NewestOf es x v → NewestOf (e ∷ es) x v
+      later n (start h) = start (also n h)
+      later n (last f i q m) = last f (below i) q (also (λ z. absurd (n z)) m)
+
+      go : (t : Bool) → eqb (e .key) x ≡ t → NewestOf es x (newest es x) → NewestOf (e ∷ es) x (cond t (versionOf e) (newest es x))
+      go true q r = last e here (eqb-true _ _ q) (also {x = e} (λ z. omega arith) (every-map (λ f h z. h .1) (chain-stamps c)))
+      go false q r = later (eqb-false _ _ q) r
+
   -- "Ordinals here are 1 to 4,096": at least 1, and at most as many as the log has versions
   pub ordinal-range : {clock : ℕ} {log : List Entry} {e : Entry} → Chain opening clock log → In e log → (1 ≤ e .ordinal) × (e .ordinal ≤ length log)
   unfolding upTo
@@ -164,3 +179,7 @@ module _ {opening : ℕ} where
       let b : upTo log (e .key) (e .stamp) ≤ length log = count-le _ log in
       let o = ordinal-counts c i in
       (omega arith, omega arith)
+
+  -- up to the clock every version is counted
+  pub upTo-now : {clock : ℕ} {log : List Entry} → Chain opening clock log → (x t : ℕ) → clock ≤ t → upTo log x t ≡ versions log x
+  upTo-now c x t h = upTo-all x t (chain-below c h)

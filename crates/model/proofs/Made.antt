@@ -4,12 +4,15 @@ use Prim.Native.Nat.{ℕ, _≤_, _<_}
 use native.Mathlib.Omega.{arith}
 use native.Mathlib.Decide.{ℕ-discrete}
 use mathlib.Core.Path.{_≡_, refl, sym, _∙_, ap}
-use mathlib.Core.Logic.{_≢_}
+use mathlib.Core.Logic.{_≢_, ⊎-elim}
+use mathlib.Core.Bool.{Bool, true, false, cond}
 use mathlib.Core.List.{List, [], _∷_, _++_, map, append-nil, append-assoc}
 use lib.ListN.{length, length-map}
-use borrow.Author.Tests.{eq-eqb, ne-eqb}
+use lib.Dec.{eqb}
+use borrow.Author.Tests.{eqb-true, eq-eqb, ne-eqb}
 use Rattle.lists.specs.Lists.{count, Every, none, also}
-use Rattle.lists.specs.Members.{Distinct, empty, apart}
+use Rattle.lists.specs.Members.{In, here, below, Distinct, empty, apart}
+use Rattle.lists.proofs.Members.{in-append, in-left, in-right, in-nothing, in-one}
 use Rattle.lists.proofs.Every.{every-map}
 use Rattle.transaction.specs.declared.Write.{Write}
 use Rattle.model.specs.Log.{Entry, versions, next, installed, madeAt}
@@ -80,3 +83,24 @@ module _ {opening clock : ℕ} {log : List Entry} (g : Grown opening clock log) 
 
   pub made-keys : Every (λ (k : ℕ). k ≤ 63) (map (λ (e : Entry). e .key) (madeAt log t))
   made-keys = let c = one-commit g t in rw (c .made, keys-made (c .before) t (c .writes)) (c .fine .keys)
+
+-- the versions of a stamp are the versions of the log that have it. Every log is taken.
+pub made-in : (log : List Entry) (t : ℕ) (e : Entry) → In e (madeAt log t) → In e log × (e .stamp ≡ t)
+unfolding madeAt
+made-in [] t e i = absurd (in-nothing i)
+made-in (f ∷ fs) t e i = go (eqb (f .stamp) t) refl (made-in fs t e) i
+  where
+    go : (b : Bool) → eqb (f .stamp) t ≡ b → (In e (madeAt fs t) → In e fs × (e .stamp ≡ t)) → In e (cond b (madeAt fs t ++ (f ∷ [])) (madeAt fs t)) → In e (f ∷ fs) × (e .stamp ≡ t)
+    go true q r i =
+        ⊎-elim (λ j. let k = r j in (below (k .0), k .1)) (λ j. let z = in-one j in (rw z here, ap (λ (x : Entry). x .stamp) z ∙ eqb-true _ _ q))
+        (in-append (madeAt fs t) (f ∷ []) i)
+    go false q r i = let k = r i in (below (k .0), k .1)
+
+pub in-made : {log : List Entry} {e : Entry} → In e log → In e (madeAt log (e .stamp))
+unfolding madeAt
+in-made {e = e} (here {xs = es}) = rw (eq-eqb (e .stamp) (e .stamp) refl) (in-right (madeAt es (e .stamp)) here)
+in-made {e = e} (below {y = f} {xs = es} i) = go (eqb (f .stamp) (e .stamp)) (in-made i)
+  where
+    go : (b : Bool) → In e (madeAt es (e .stamp)) → In e (cond b (madeAt es (e .stamp) ++ (f ∷ [])) (madeAt es (e .stamp)))
+    go true j = in-left (f ∷ []) j
+    go false j = j

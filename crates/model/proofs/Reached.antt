@@ -59,6 +59,7 @@ module _ (ps : List Transaction) (i : ℕ) (t : Transaction) (h : i < length ps)
     where
       Same : ℕ → Transaction → Type 0
       Same j u = (u .live ≡ true → at ps j .live ≡ true) × (u .name .0 ≡ at ps j .name .0)
+
       same : (j : ℕ) → Same j (at (set ps i t) j)
       same = set-cases Same ps i t noTransaction h (l, e) (λ j n. (λ x. x, refl))
 

@@ -140,12 +140,13 @@ module _ (log : List Entry) (t : Transaction) where
   -- "the rules hold": the search finds none broken exactly if each read, each pair and each written key keeps them
   pub certified-exactly : (certified log t ≡ Whole) ↔ Kept log t
   unfolding certified
-  certified-exactly =
-      (to,
-      λ k. or-next _ _ (unbroken _ _ (bv-tests log t) BV _ (k .bv))
-      (or-next _ _ (unbroken _ _ (fv-tests log t) FV _ (k .fv))
-      (or-next _ _ (unbroken _ _ (pair-tests log t) _ _ (k .sv))
-      (unbroken _ _ (wc-tests log t) WC _ (k .wc)))))
+  certified-exactly = (
+    to,
+    λ k. or-next _ _ (unbroken _ _ (bv-tests log t) BV _ (k .bv))
+        (or-next _ _ (unbroken _ _ (fv-tests log t) FV _ (k .fv))
+        (or-next _ _ (unbroken _ _ (pair-tests log t) _ _ (k .sv))
+        (unbroken _ _ (wc-tests log t) WC _ (k .wc)))),
+  )
     where
       to : (bvs orElse fvs orElse svs orElse wcs) ≡ Whole → Kept log t
       to e =

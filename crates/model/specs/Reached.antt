@@ -4,14 +4,16 @@ use Prim.Native.Nat.{ℕ, suc, _≤_, _<_}
 use mathlib.Core.Bool.{true}
 use mathlib.Core.List.{List, [], _∷_, map}
 use mathlib.Core.Path.{_≡_}
+use mathlib.Core.Logic.{_≢_}
 use lib.ListN.{length, getD}
 use Rattle.lists.specs.Lists.{Every}
 use Rattle.lists.specs.Members.{In, Distinct}
+use Rattle.units.specs.declared.Version.{Version}
 use Rattle.transaction.specs.declared.Mark.{Mark}
 use Rattle.transaction.specs.declared.Write.{Write}
 use Rattle.transaction.specs.declared.Transaction.{Transaction}
 use Rattle.transaction.specs.Transaction.{readsOf, writesOf}
-use Rattle.model.specs.Log.{Entry, versions, next, installed, madeAt}
+use Rattle.model.specs.Log.{Entry, versionOf, startVersion, versions, next, installed, madeAt}
 use Rattle.model.specs.State.{State, noTransaction}
 
 abbrev pub keysOf : List Write → List ℕ
@@ -42,6 +44,11 @@ pub record OneCommit (log : List Entry) (stamp : ℕ) : Type 0 where
   pub writes : List Write
   pub fine : Writes writes
   pub made : madeAt log stamp ≡ map (next before stamp) writes
+
+-- "the key's newest version": the start version where the key has no other, else the one with the greatest stamp
+pub data NewestOf (log : List Entry) (k : ℕ) : Version → Type 0 where
+  start : Every (λ (e : Entry). e .key ≢ k) log → NewestOf log k startVersion
+  last : (e : Entry) → In e log → e .key ≡ k → Every (λ (f : Entry). f .key ≡ k → f .stamp ≤ e .stamp) log → NewestOf log k (versionOf e)
 
 -- "the master looks it up and believes nothing else": a recorded read is the start version, or a version that the log has
 pub data Stands (log : List Entry) (x : Mark) : Type 0 where
