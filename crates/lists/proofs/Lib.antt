@@ -1,3 +1,6 @@
 pub mod Find
 pub mod Length
 pub mod Sets
+pub mod Every
+pub mod Members
+pub mod Count

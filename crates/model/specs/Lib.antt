@@ -4,3 +4,9 @@ pub mod State
 pub mod Call
 pub mod Step
 pub mod Session
+pub mod Checks
+pub mod Ending
+pub mod Kept
+pub mod Reached
+pub mod Clock
+pub mod Snapshot
