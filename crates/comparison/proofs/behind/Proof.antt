@@ -37,7 +37,7 @@ newest-ordinal-requires : tie.Need-newest-ordinal-requires Inv-loop μ-loop
 newest-ordinal-requires c κs = search needs
 
 bit-if-requires : tie.Need-bit-if-requires Inv-loop μ-loop
-bit-if-requires c κs = c .before .before .before .loop-test .taken
+bit-if-requires c κs = omega (arith, c .before .before .before .loop-test .taken)
 
 -- the test, the key, and the word after the turn
 abbrev test : tie.After-bit-if Inv-loop μ-loop → ℕ → Bool
