@@ -1,3 +1,4 @@
 pub mod Written
 pub mod Ledger
 pub mod Totals
+pub mod Judge

@@ -1,0 +1,83 @@
+-- What the one pass comes to on a whole history: the ledger after its lines, what its verdicts must say, and what its totals count.
+use Prim.Native.Nat.{ℕ, suc}
+use mathlib.Core.Bool.{Bool, true, false, cond}
+use mathlib.Core.List.{List, [], _∷_}
+use mathlib.Core.Logic.{_↔_}
+use mathlib.Core.Path.{_≡_}
+use lib.Dec.{eqb}
+use lib.ListN.{length}
+use Rattle.lists.specs.Lists.{any}
+use Rattle.records.specs.declared.Record.{Record}
+use Rattle.records.specs.declared.Record.the-variants.{Start, Tune, Read, Write, Commit, Abort}
+use Rattle.records.specs.declared.Verdict.{Verdict}
+use Rattle.records.specs.declared.Verdict.the-variants.{Ok, RC, BV, FV, SV, WC}
+use Rattle.records.specs.declared.Totals.{Totals}
+use Rattle.records.specs.Written.{History, isStart, isCommit, commitLine, KeepsRC, KeepsBV, KeepsFV, KeepsSV, KeepsWC}
+use Rattle.records.specs.Ledger.{Ledger, blank, nowhere, went, step}
+use Rattle.records.specs.Totals.{noTotals, raised}
+
+-- the ledger after the lines of a history, where none of them is refused
+pub data Taken : History → Ledger → Type 0 where
+  nothing : Taken [] blank
+  line : {h : History} {r : Record} {l l′ : Ledger} → Taken h l → step (suc (length h)) r l ≡ went l′ → Taken (r ∷ h) l′
+
+abbrev pub isAbort : ℕ → Record → Bool
+isAbort t (Start u) = false
+isAbort t (Tune u b) = false
+isAbort t (Read u x w) = false
+isAbort t (Write u x) = false
+isAbort t (Commit u) = false
+isAbort t (Abort u) = eqb u t
+
+-- where a transaction ended: the line of its commit, nowhere where it was aborted (or never started), 0 while it is open
+unfoldable pub endIn : History → ℕ → ℕ
+endIn h t = cond (any (isCommit t) h) (commitLine h t) (cond (any (isAbort t) h) nowhere (cond (any (isStart t) h) 0 nowhere))
+
+-- the transactions that committed, the last commit line first
+unfoldable pub committedIn : History → List ℕ
+committedIn [] = []
+committedIn (Start t ∷ h) = committedIn h
+committedIn (Tune t b ∷ h) = committedIn h
+committedIn (Read t x w ∷ h) = committedIn h
+committedIn (Write t x ∷ h) = committedIn h
+committedIn (Commit t ∷ h) = t ∷ committedIn h
+committedIn (Abort t ∷ h) = committedIn h
+
+-- "The first broken of RC, BV, FV, SV, WC is named": what a verdict on a transaction says of its whole history
+pub record Names (h : History) (t : ℕ) (v : Verdict) : Type 0 where
+  pub ok : (v ≡ Ok) ↔ (KeepsRC h t × KeepsBV h t × KeepsFV h t × KeepsSV h t × KeepsWC h t)
+  pub rc : (v ≡ RC) ↔ (¬ KeepsRC h t)
+  pub bv : (v ≡ BV) ↔ (KeepsRC h t × ¬ KeepsBV h t)
+  pub fv : (v ≡ FV) ↔ (KeepsRC h t × KeepsBV h t × ¬ KeepsFV h t)
+  pub sv : (v ≡ SV) ↔ (KeepsRC h t × KeepsBV h t × KeepsFV h t × ¬ KeepsSV h t)
+  pub wc : (v ≡ WC) ↔ (KeepsRC h t × KeepsBV h t × KeepsFV h t × KeepsSV h t × ¬ KeepsWC h t)
+
+-- the totals, raised a line at a time
+unfoldable pub totalsOf : History → Totals
+totalsOf [] = noTotals
+totalsOf (r ∷ h) = raised r (totalsOf h)
+
+-- the three kinds of record that the totals count
+abbrev pub starts : Record → Bool
+starts (Start t) = true
+starts (Tune t b) = false
+starts (Read t x w) = false
+starts (Write t x) = false
+starts (Commit t) = false
+starts (Abort t) = false
+
+abbrev pub commits : Record → Bool
+commits (Start t) = false
+commits (Tune t b) = false
+commits (Read t x w) = false
+commits (Write t x) = false
+commits (Commit t) = true
+commits (Abort t) = false
+
+abbrev pub aborts : Record → Bool
+aborts (Start t) = false
+aborts (Tune t b) = false
+aborts (Read t x w) = false
+aborts (Write t x) = false
+aborts (Commit t) = false
+aborts (Abort t) = true
