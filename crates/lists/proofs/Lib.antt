@@ -1,3 +1,4 @@
 pub mod Find
 pub mod Length
 pub mod Every
+pub mod Count

@@ -1,3 +1,6 @@
 pub mod Word
 pub mod Rows
 pub mod Runs
+pub mod Lines
+pub mod Fields
+pub mod Counts

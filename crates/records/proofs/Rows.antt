@@ -135,3 +135,11 @@ any-row p (r ∷ rs) t e h = go (named t r) (any-row p rs t) e h
         → (p r || any p rs) ≡ true
     go true k e h = rw h
     go false k e h = rw (k e h, or-true (p r))
+
+pub named-names : (rs : List Row) (t : ℕ) → any (named t) rs ≡ any (λ (n : ℕ). eqb n t) (map (λ (r : Row). r .name) rs)
+unfolding any
+named-names [] t = refl
+named-names (r ∷ rs) t = rw (named-names rs t)
+
+pub become-named : (t : ℕ) (q : Row) → q .name ≡ t → (rs : List Row) (u : ℕ) → any (named u) (become rs t q) ≡ any (named u) rs
+become-named t q same rs u = named-names (become rs t q) u ∙ ap (any (λ (n : ℕ). eqb n u)) (become-names t q same rs) ∙ sym (named-names rs u)
