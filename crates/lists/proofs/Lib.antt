@@ -2,3 +2,4 @@ pub mod Find
 pub mod Length
 pub mod Every
 pub mod Count
+pub mod Filter

@@ -4,3 +4,4 @@ pub mod Runs
 pub mod Lines
 pub mod Fields
 pub mod Counts
+pub mod Chains
