@@ -3,3 +3,4 @@ pub mod Length
 pub mod Every
 pub mod Count
 pub mod Filter
+pub mod Along

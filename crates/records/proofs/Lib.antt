@@ -5,3 +5,4 @@ pub mod Lines
 pub mod Fields
 pub mod Counts
 pub mod Chains
+pub mod Rules
