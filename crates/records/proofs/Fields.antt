@@ -11,8 +11,8 @@ use lib.Dec.{eqb, ltb}
 use lib.ListN.{length}
 use borrow.Author.Tests.{eqb-true, eqb-false, eq-eqb, ne-eqb, lt-ltb, le-ltb, ltb-true, ltb-false}
 use Rattle.lists.specs.Lists.{any, Every, none, also}
-use Rattle.lists.specs.Distinct.{Distinct}
-use Rattle.lists.proofs.Every.{every-map, any-none}
+use Rattle.lists.specs.Distinct.{Distinct, bare as none-there, fresh}
+use Rattle.lists.proofs.Every.{every-map, any-none, none-any}
 use Rattle.units.specs.Bounds.{default}
 use Rattle.units.specs.declared.Bounds.{Bounds}
 use Rattle.records.specs.declared.Record.{Record}
@@ -22,7 +22,7 @@ use Rattle.records.specs.Written.{History, isStart, isCommit, isWrite, l
 use Rattle.records.specs.Ledger.{Ledger, rowOf, become, named, nameOf, isOpen, noRow, nowhere, freshRow, changed, isRecorded, withLast, has}
 use Rattle.records.specs.Judge.{starts, isAbort, endIn}
 use Rattle.records.proofs.Word.{has-plus}
-use Rattle.records.proofs.Rows.{unnamed, open-named, open-there, become-same, become-other, become-named, changed-name}
+use Rattle.records.proofs.Rows.{unnamed, open-named, open-there, become-same, become-other, become-names, become-named, named-names, changed-name}
 use Rattle.records.proofs.Runs.{Ran, bare, began, moved}
 use Rattle.records.proofs.Lines.{line-past, line-here, any-past, any-here, line-le, line-none, line-some}
 
@@ -273,3 +273,19 @@ not-ended (began {t = t} r k) small = let s = silent r t k in (silent-any isComm
 not-ended (moved {h} {e} {l} r s o) small =
     let z : endIn h (nameOf e) ≡ 0 = sym (end-tied r (omega arith) (nameOf e)) ∙ eqb-true (rowOf (l .rows) (nameOf e) .end) 0 o in
     (open-commits h (nameOf e) z, open-aborts h (nameOf e) z)
+
+-- no two rows have one name
+pub names-distinct : {h : History} {l : Ledger} → Ran h l → Distinct (map (λ (q : Row). q .name) (l .rows))
+names-distinct bare = none-there
+names-distinct (began {t = t} {l = l} r k) =
+    fresh (every-map (λ n e q. eqb-false n t e (sym q)) (none-any (λ (n : ℕ). eqb n t) (map (λ (q : Row). q .name) (l .rows)) (sym (named-names (l .rows) t) ∙ k))) (names-distinct r)
+names-distinct (moved {h} {e} {l} r s o) =
+    rw (become-names (nameOf e) (rowAfter (suc (length h)) e l o) (after-name (suc (length h)) e l o) (l .rows)) (names-distinct r)
+
+-- one that committed has a row
+pub committed-named : {h : History} {l : Ledger} → Ran h l → (t : ℕ) → 0 < commitLine h t → any (named t) (l .rows) ≡ true
+committed-named {h} {l} r t c = go (any (named t) (l .rows)) refl
+  where
+    go : (b : Bool) → any (named t) (l .rows) ≡ b → b ≡ true
+    go true e = refl
+    go false e = absurd (omega (arith, line-none (isCommit t) h (silent-any isCommit other-commit (silent r t e))))

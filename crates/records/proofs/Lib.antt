@@ -6,3 +6,5 @@ pub mod Fields
 pub mod Counts
 pub mod Chains
 pub mod Rules
+pub mod Later
+pub mod Overtaken

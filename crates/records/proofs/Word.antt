@@ -80,3 +80,10 @@ meets-none a b = (to, from (eqb (bitAnd a b) 0) refl)
         let n : 0 < bitAnd a b = omega (arith, eqb-false (bitAnd a b) 0 e) in
         let d = some-digit (bitAnd a b) (bitAnd a b) (omega arith) n in
         absurd (f (d .0) (eq-eqb (digit a (d .0)) 1 (omega (arith, digit-and a b (d .0), d .1))) (eq-eqb (digit b (d .0)) 1 (omega (arith, digit-and a b (d .0), d .1))))
+
+pub meets-some : (a b x : ℕ) → has a x ≡ true → has b x ≡ true → meets a b ≡ true
+meets-some a b x p q = go (meets a b) refl
+  where
+    go : (t : Bool) → meets a b ≡ t → t ≡ true
+    go true e = refl
+    go false e = absurd (meets-none a b .0 e x p q)
