@@ -8,3 +8,4 @@ pub mod Chains
 pub mod Rules
 pub mod Later
 pub mod Overtaken
+pub mod Verdicts
