@@ -1,5 +1,5 @@
 -- How many times a test holds: two tests that agree on a list, and what a count is at most.
-use Prim.Native.Nat.{ℕ, suc, _≤_}
+use Prim.Native.Nat.{ℕ, suc, _+_, _≤_}
 use native.Mathlib.Omega.{arith}
 use mathlib.Core.Path.{_≡_, refl}
 use mathlib.Core.Bool.{Bool, true, false, cond}
@@ -21,3 +21,16 @@ module _ {A : Type 0} where
       go : (b : Bool) → count p xs ≤ length xs → cond b (suc (count p xs)) (count p xs) ≤ suc (length xs)
       go true h = omega arith
       go false h = omega arith
+
+  pub count-empty : (p : A → Bool) → count p [] ≡ 0
+  unfolding count
+  count-empty p = refl
+
+  -- over one more
+  pub count-more : (p : A → Bool) (x : A) (xs : List A) → count p (x ∷ xs) ≡ cond (p x) 1 0 + count p xs
+  unfolding count
+  count-more p x xs = go (p x)
+    where
+      go : (b : Bool) → cond b (suc (count p xs)) (count p xs) ≡ cond b 1 0 + count p xs
+      go true = omega arith
+      go false = omega arith

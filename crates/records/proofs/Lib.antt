@@ -9,3 +9,4 @@ pub mod Rules
 pub mod Later
 pub mod Overtaken
 pub mod Verdicts
+pub mod Tallies

@@ -1,19 +1,19 @@
 -- What the one pass comes to on a whole history: the ledger after its lines, what its verdicts must say, and what its totals count.
-use Prim.Native.Nat.{ℕ, suc}
+use Prim.Native.Nat.{ℕ, suc, _-_}
 use mathlib.Core.Bool.{Bool, true, false, cond}
 use mathlib.Core.List.{List, [], _∷_}
 use mathlib.Core.Logic.{_↔_}
 use mathlib.Core.Path.{_≡_}
 use lib.Dec.{eqb}
 use lib.ListN.{length}
-use Rattle.lists.specs.Lists.{any}
+use Rattle.lists.specs.Lists.{any, count}
 use Rattle.records.specs.declared.Record.{Record}
 use Rattle.records.specs.declared.Record.the-variants.{Start, Tune, Read, Write, Commit, Abort}
 use Rattle.records.specs.declared.Verdict.{Verdict}
 use Rattle.records.specs.declared.Verdict.the-variants.{Ok, RC, BV, FV, SV, WC}
 use Rattle.records.specs.declared.Totals.{Totals}
 use Rattle.records.specs.Written.{History, isStart, isCommit, commitLine, KeepsRC, KeepsBV, KeepsFV, KeepsSV, KeepsWC}
-use Rattle.records.specs.Ledger.{Ledger, blank, nowhere, went, step}
+use Rattle.records.specs.Ledger.{Ledger, blank, nowhere, isOpen, went, step}
 use Rattle.records.specs.Totals.{noTotals, raised}
 
 -- the ledger after the lines of a history, where none of them is refused
@@ -81,3 +81,11 @@ aborts (Read t x w) = false
 aborts (Write t x) = false
 aborts (Commit t) = false
 aborts (Abort t) = true
+
+-- "the numbers started, committed, aborted and still open"
+pub record Counts (h : History) (l : Ledger) (n : Totals) : Type 0 where
+  pub started : n .started ≡ count starts h
+  pub committed : n .committed ≡ count commits h
+  pub aborted : n .aborted ≡ count aborts h
+  pub «open» : n .«open» ≡ count isOpen (l .rows)
+  pub rest : n .«open» ≡ count starts h - count commits h - count aborts h
