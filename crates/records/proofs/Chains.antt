@@ -20,19 +20,11 @@ use Rattle.records.specs.declared.Row.{Row}
 use Rattle.records.specs.declared.Seen.{Seen}
 use Rattle.records.specs.Written.{History, ReadLine, readLines, recordedReads, isOwn, stampOf, isCommit, commitLine, wrote}
 use Rattle.records.specs.Ledger.{Ledger, rowOf, become, nameOf, isOpen, nowhere, freshRow, changed, noted, isRecorded, withLast, has, resolved, chain}
-use Rattle.records.specs.Judge.{starts}
+use Rattle.records.specs.Judge.{starts, keeps, Resolves}
 use Rattle.records.proofs.Lines.{line-le}
 use Rattle.records.proofs.Rows.{unnamed, open-there, open-named}
 use Rattle.records.proofs.Runs.{Ran, bare, began, moved}
 use Rattle.records.proofs.Fields.{rowAfter, after-same, after-other, read-keeps, landed, keys-tied, commit-tied}
-
--- the reading rule of one read, as a test
-abbrev pub keeps : ReadLine → Bool
-keeps x = eqb (x .source) 0 || wrote (x .before) (x .source) (x .key) && ltb 0 (commitLine (x .before) (x .source))
-
-pub record Resolves (s : Seen) (x : ReadLine) : Type 0 where
-  pub key : s .key ≡ x .key
-  pub line : s .line ≡ cond (keeps x) (stampOf x) nowhere
 
 -- a line of another transaction, and one that is no read, adds none
 pub other-reads : (t : ℕ) (e : Record) (h : History) → nameOf e ≢ t → recordedReads (e ∷ h) t ≡ recordedReads h t

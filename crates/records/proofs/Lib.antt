@@ -5,6 +5,7 @@ pub mod Lines
 pub mod Fields
 pub mod Counts
 pub mod Chains
+pub mod Mirror
 pub mod Rules
 pub mod Later
 pub mod Overtaken

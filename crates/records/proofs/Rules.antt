@@ -21,11 +21,12 @@ use Rattle.records.specs.declared.Row.{Row}
 use Rattle.records.specs.declared.Seen.{Seen}
 use Rattle.records.specs.Written.{History, ReadLine, recordedReads, isStart, startLine, commitLine, boundsIn, wrote, stampOf, upTo, between, distanceIn, KeepsRC, KeepsBV, KeepsFV, KeepsSV}
 use Rattle.records.specs.Ledger.{Ledger, rowOf, nowhere, chain, unread, stale, early, apart, seenDistance, rowsUpTo, rowsBetween}
+use Rattle.records.specs.Judge.{keeps, Resolves}
 use Rattle.records.proofs.Lines.{line-le}
 use Rattle.records.proofs.Runs.{Ran}
 use Rattle.records.proofs.Fields.{start-tied, bounds-tied}
 use Rattle.records.proofs.Counts.{up-to-tied, between-tied, up-to-stays, between-stays}
-use Rattle.records.proofs.Chains.{keeps, Resolves, reads-tied, reads-below, stamp-le}
+use Rattle.records.proofs.Chains.{reads-tied, reads-below, stamp-le}
 
 not-tests : (b : Bool) → (not b ≡ false) ↔ T b
 not-tests true = (λ e. tt, λ h. refl)

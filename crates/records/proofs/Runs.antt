@@ -14,7 +14,7 @@ use Rattle.records.specs.declared.Record.the-variants.{Start, Tune, Read
 use Rattle.records.specs.declared.Row.{Row}
 use Rattle.records.specs.Written.{History}
 use Rattle.records.specs.Ledger.{Ledger, blank, Outcome, refused, went, step, begun, rowOf, become, named, nameOf, isOpen, freshRow, changed, noted, concluded}
-use Rattle.records.specs.Judge.{Taken, nothing, line, starts}
+use Rattle.records.specs.Judge.{Taken, nothing, line, next, after, starts}
 
 abbrev pub begunAt : ℕ → ℕ → Ledger → Ledger
 begunAt n t l = record { rows = freshRow n t ∷ l .rows; seens = l .seens; judged = l .judged }
@@ -75,3 +75,18 @@ taken-once (line {h} {r = e} {l′ = l} t p) (line {l′ = m} u q) = same (taken
   where
     same : {a b : Ledger} → a ≡ b → step (suc (length h)) e a ≡ went l → step (suc (length h)) e b ≡ went m → l ≡ m
     same z p q = cc
+
+-- the function and the relation say the same
+pub taken-after : {h : History} {l : Ledger} → Taken h l → after h ≡ went l
+unfolding after
+taken-after nothing = refl
+taken-after (line t q) = rw (taken-after t) q
+
+pub after-taken : (h : History) (l : Ledger) → after h ≡ went l → Taken h l
+unfolding after
+after-taken [] l e = let z : blank ≡ l = cc in subst (λ (m : Ledger). Taken [] m) z nothing
+after-taken (r ∷ h) l e = go (after h) (after-taken h) e
+  where
+    go : (o : Outcome) → ((m : Ledger) → o ≡ went m → Taken h m) → next (suc (length h)) r o ≡ went l → Taken (r ∷ h) l
+    go (refused k) f e = let z : _≡_ {A = ℕ} 0 1 = cc in absurd (omega arith)
+    go (went m) f e = line (f m refl) e
