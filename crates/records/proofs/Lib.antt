@@ -11,3 +11,5 @@ pub mod Later
 pub mod Overtaken
 pub mod Verdicts
 pub mod Tallies
+pub mod Readings
+pub mod Example

@@ -2,3 +2,4 @@ pub mod Written
 pub mod Ledger
 pub mod Totals
 pub mod Judge
+pub mod Example
