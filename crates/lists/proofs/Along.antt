@@ -1,8 +1,8 @@
 -- "For every" carried from one list to another that goes along with it, and from one statement to another that says the same.
-use mathlib.Core.Path.{_≡_, refl, sym, _∙_}
+use mathlib.Core.Path.{_≡_, refl}
 use mathlib.Core.Logic.{_↔_}
 use mathlib.Core.Bool.{Bool, true, false, _||_, true≢false}
-use mathlib.Core.List.{List, [], _∷_}
+use mathlib.Core.List.{List, _∷_}
 use Rattle.lists.specs.Lists.{any, Every, none, also}
 use Rattle.lists.specs.Along.{Along, bare, beside}
 

@@ -1,6 +1,6 @@
 -- What a test lets through keeps what holds of every one.
 use mathlib.Core.Bool.{Bool, true, false, cond}
-use mathlib.Core.List.{List, [], _∷_}
+use mathlib.Core.List.{List, _∷_}
 use Rattle.lists.specs.Lists.{filter, Every, none, also}
 
 pub every-filter : {A : Type 0} {P : A → Type 0} (p : A → Bool) {l : List A} → Every P l → Every P (filter p l)

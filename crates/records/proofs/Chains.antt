@@ -1,15 +1,15 @@
 -- The reads that the ledger keeps for a transaction are its recorded reads, in order: each with its key, and resolved to the line of the
 -- version read where it keeps RC, to nowhere where it does not.
-use Prim.Native.Nat.{ℕ, suc, _+_, _≤_, _<_}
+use Prim.Native.Nat.{ℕ, suc, _≤_, _<_}
 use native.Mathlib.Omega.{arith}
 use native.Mathlib.Decide.{ℕ-discrete}
-use mathlib.Core.Path.{_≡_, refl, sym, _∙_, ap, subst}
+use mathlib.Core.Path.{_≡_, refl}
 use mathlib.Core.Logic.{_≢_}
 use mathlib.Core.Bool.{Bool, true, false, cond, not, _&&_, _||_, and-true, and-false, true≢false}
 use mathlib.Core.List.{List, [], _∷_}
 use lib.Dec.{eqb, ltb}
 use lib.ListN.{length}
-use borrow.Author.Tests.{eqb-true, eq-eqb, ne-eqb, lt-ltb, le-ltb}
+use borrow.Author.Tests.{eqb-true, eq-eqb, ne-eqb}
 use Rattle.lists.specs.Lists.{filter, Every, none, also}
 use Rattle.lists.specs.Along.{Along, bare as no-more, beside}
 use Rattle.lists.proofs.Every.{every-map}
@@ -19,12 +19,13 @@ use Rattle.records.specs.declared.Record.the-variants.{Start, Tune, Read
 use Rattle.records.specs.declared.Row.{Row}
 use Rattle.records.specs.declared.Seen.{Seen}
 use Rattle.records.specs.Written.{History, ReadLine, readLines, recordedReads, isOwn, stampOf, isCommit, commitLine, wrote}
-use Rattle.records.specs.Ledger.{Ledger, rowOf, become, nameOf, isOpen, nowhere, freshRow, changed, noted, isRecorded, withLast, has, resolved, chain}
-use Rattle.records.specs.Judge.{starts, keeps, Resolves}
+use Rattle.records.specs.Ledger.{Ledger, rowOf, become, nameOf, isOpen, nowhere, freshRow, changed, noted, isRecorded, resolved, chain}
+use Rattle.records.specs.Tally.{starts}
+use Rattle.records.specs.Mirror.{keeps, Resolves}
 use Rattle.records.proofs.Lines.{line-le}
-use Rattle.records.proofs.Rows.{unnamed, open-there, open-named}
+use Rattle.records.proofs.Rows.{unnamed, open-named}
 use Rattle.records.proofs.Runs.{Ran, bare, began, moved}
-use Rattle.records.proofs.Fields.{rowAfter, after-same, after-other, read-keeps, landed, keys-tied, commit-tied}
+use Rattle.records.proofs.Fields.{rowAfter, after-same, after-other, landed, keys-tied, commit-tied}
 
 -- a line of another transaction, and one that is no read, adds none
 pub other-reads : (t : ℕ) (e : Record) (h : History) → nameOf e ≢ t → recordedReads (e ∷ h) t ≡ recordedReads h t

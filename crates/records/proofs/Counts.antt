@@ -1,12 +1,12 @@
 -- The versions that the rows count are the versions of the history: up to a line, and between two lines.
 use Prim.Native.Nat.{ℕ, suc, _+_, _≤_, _<_}
 use native.Mathlib.Omega.{arith}
-use mathlib.Core.Path.{_≡_, refl, sym, _∙_, ap}
+use mathlib.Core.Path.{_≡_, refl, _∙_, ap}
 use mathlib.Core.Bool.{Bool, true, false, cond, _&&_, and-false, true≢false, false≢true}
 use mathlib.Core.List.{List, [], _∷_}
 use lib.Dec.{leb, ltb}
 use lib.ListN.{length}
-use borrow.Author.Tests.{eqb-true, lt-ltb, le-ltb, lt-leb, le-leb, ltb-true, ltb-false}
+use borrow.Author.Tests.{eqb-true, lt-ltb, le-ltb, lt-leb}
 use Rattle.lists.specs.Lists.{count, Every, none, also}
 use Rattle.lists.proofs.Every.{every-map}
 use Rattle.lists.proofs.Count.{count-same}
@@ -14,8 +14,8 @@ use Rattle.records.specs.declared.Record.{Record}
 use Rattle.records.specs.declared.Record.the-variants.{Start, Tune, Read, Write, Commit, Abort}
 use Rattle.records.specs.declared.Row.{Row}
 use Rattle.records.specs.Written.{History, versionLines, wrote, makes, upTo, between}
-use Rattle.records.specs.Ledger.{Ledger, rowOf, become, nameOf, isOpen, nowhere, freshRow, changed, isRecorded, withLast, has, rowsUpTo, rowsBetween}
-use Rattle.records.specs.Judge.{starts}
+use Rattle.records.specs.Ledger.{Ledger, rowOf, nameOf, nowhere, freshRow, changed, isRecorded, has, rowsUpTo, rowsBetween}
+use Rattle.records.specs.Tally.{starts}
 use Rattle.records.proofs.Rows.{open-there, become-count, one}
 use Rattle.records.proofs.Runs.{Ran, bare, began, moved}
 use Rattle.records.proofs.Fields.{rowAfter, read-keeps, keys-tied}

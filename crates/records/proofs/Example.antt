@@ -5,7 +5,8 @@ use Rattle.lists.specs.Lists.{any, count}
 use Rattle.units.specs.Bounds.{default}
 use Rattle.records.specs.declared.Verdict.the-variants.{Ok, FV}
 use Rattle.records.specs.Ledger.{Ledger, blank, rowOf, become, rowsUpTo, rowsBetween, resolved, chain, verdictOn, changed, noted, concluded, step}
-use Rattle.records.specs.Judge.{nothing, line, totalsOf}
+use Rattle.records.specs.Tally.{totalsOf}
+use Rattle.records.specs.Judge.{nothing, line}
 use Rattle.records.specs.Example.{P10, Empty}
 
 abbrev after-c2 : Ledger

@@ -1,15 +1,15 @@
 -- The tie between the ledger and the history: what the row of each transaction holds is what the lines so far say of it.
-use Prim.Native.Nat.{ℕ, zero, suc, _+_, _^_, _≤_, _<_}
+use Prim.Native.Nat.{ℕ, suc, _^_, _≤_, _<_}
 use native.Mathlib.Omega.{arith}
 use native.Mathlib.Nat.{zero-div}
 use native.Mathlib.Decide.{ℕ-discrete}
 use mathlib.Core.Path.{_≡_, refl, sym, _∙_, ap}
 use mathlib.Core.Logic.{_≢_}
-use mathlib.Core.Bool.{Bool, true, false, cond, _&&_, _||_, or-comm, true≢false, false≢true}
-use mathlib.Core.List.{List, [], _∷_, map}
+use mathlib.Core.Bool.{Bool, true, false, cond, _||_, or-comm, true≢false}
+use mathlib.Core.List.{[], _∷_, map}
 use lib.Dec.{eqb, ltb}
 use lib.ListN.{length}
-use borrow.Author.Tests.{eqb-true, eqb-false, eq-eqb, ne-eqb, lt-ltb, le-ltb, ltb-true, ltb-false}
+use borrow.Author.Tests.{eqb-true, eqb-false, eq-eqb, ne-eqb, lt-ltb}
 use Rattle.lists.specs.Lists.{any, Every, none, also}
 use Rattle.lists.specs.Distinct.{Distinct, bare as none-there, fresh}
 use Rattle.lists.proofs.Every.{every-map, any-none, none-any}
@@ -20,11 +20,12 @@ use Rattle.records.specs.declared.Record.the-variants.{Start, Tune, Read
 use Rattle.records.specs.declared.Row.{Row}
 use Rattle.records.specs.Written.{History, isStart, isCommit, isWrite, lineOf, startLine, commitLine, wrote, boundsIn}
 use Rattle.records.specs.Ledger.{Ledger, rowOf, become, named, nameOf, isOpen, noRow, nowhere, freshRow, changed, isRecorded, withLast, has}
-use Rattle.records.specs.Judge.{starts, isAbort, endIn}
+use Rattle.records.specs.Tally.{starts}
+use Rattle.records.specs.Mirror.{isAbort, endIn}
 use Rattle.records.proofs.Word.{has-plus}
 use Rattle.records.proofs.Rows.{unnamed, open-named, open-there, become-same, become-other, become-names, become-named, named-names, changed-name}
 use Rattle.records.proofs.Runs.{Ran, bare, began, moved}
-use Rattle.records.proofs.Lines.{line-past, line-here, any-past, any-here, line-le, line-none, line-some}
+use Rattle.records.proofs.Lines.{line-past, any-past, line-le, line-none, line-some}
 
 -- a record that does not name t is none of its starts, commits, aborts, writes
 module _ (t : ℕ) where

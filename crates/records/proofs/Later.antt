@@ -1,23 +1,21 @@
 -- Later lines change nothing of what the rules say of a transaction that has committed.
-use Prim.Native.Nat.{ℕ, suc, _+_, _≤_, _<_}
+use Prim.Native.Nat.{ℕ, _≤_, _<_}
 use native.Mathlib.Omega.{arith}
-use native.Mathlib.Decide.{ℕ-discrete}
 use mathlib.Core.Path.{_≡_, refl, sym, _∙_, ap, ap₂}
 use mathlib.Core.Logic.{_↔_, _≢_, Iff·rfl}
-use mathlib.Core.Bool.{Bool, true, false, _||_, or-true, true≢false}
-use mathlib.Core.List.{List, [], _∷_}
+use mathlib.Core.Bool.{Bool, true, false, true≢false}
+use mathlib.Core.List.{_∷_}
 use lib.IntN.{ℤ, pos, negℤ, _-ℤ_}
 use lib.ListN.{length}
 use lib.Signed.{_<ℤ_, _≤ℤ_}
 use Rattle.lists.specs.Lists.{any, Every}
 use Rattle.lists.proofs.Every.{every-map}
 use Rattle.lists.proofs.Along.{every-iff}
-use Rattle.units.specs.declared.Bounds.{Bounds}
 use Rattle.records.specs.declared.Record.{Record}
 use Rattle.records.specs.declared.Record.the-variants.{Commit}
-use Rattle.records.specs.Written.{History, ReadLine, readLines, recordedReads, isStart, isCommit, isWrite, lineOf, startLine, commitLine, boundsIn, wrote, stampOf, upTo, between, distanceIn, KeepsRC, KeepsBV, KeepsFV, KeepsSV, KeepsWC}
+use Rattle.records.specs.Written.{History, ReadLine, readLines, recordedReads, isStart, isCommit, isWrite, lineOf, startLine, commitLine, boundsIn, wrote, stampOf, distanceIn, KeepsRC, KeepsBV, KeepsFV, KeepsSV, KeepsWC}
 use Rattle.records.specs.Ledger.{Ledger, nameOf, nowhere}
-use Rattle.records.proofs.Lines.{line-past, line-here, line-le, line-some, some-line, any-past}
+use Rattle.records.proofs.Lines.{line-past, line-here, line-le, some-line, any-past}
 use Rattle.records.proofs.Runs.{Ran}
 use Rattle.records.proofs.Fields.{other-start, other-commit, other-write, other-bounds, not-ended}
 use Rattle.records.proofs.Counts.{up-to-stays, between-stays}

@@ -11,5 +11,6 @@ pub mod Later
 pub mod Overtaken
 pub mod Verdicts
 pub mod Tallies
+pub mod Refused
 pub mod Readings
 pub mod Example

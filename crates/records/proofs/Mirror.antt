@@ -4,7 +4,8 @@ use native.Mathlib.Omega.{arith}
 use lib.ListN.{length}
 use Rattle.records.specs.Written.{History}
 use Rattle.records.specs.Ledger.{Ledger}
-use Rattle.records.specs.Judge.{Taken, Mirrors}
+use Rattle.records.specs.Mirror.{Mirrors}
+use Rattle.records.specs.Judge.{Taken}
 use Rattle.records.proofs.Runs.{ran}
 use Rattle.records.proofs.Fields.{named-started, names-distinct, start-tied, end-tied, keys-tied, bounds-tied}
 use Rattle.records.proofs.Counts.{up-to-tied, between-tied}

@@ -1,16 +1,15 @@
 -- WC at the commit line: some row was written to and committed since the start exactly if the rule is broken.
-use Prim.Native.Nat.{ℕ, suc, _≤_, _<_}
+use Prim.Native.Nat.{ℕ, suc, _<_}
 use native.Mathlib.Omega.{arith}
 use mathlib.Core.Path.{_≡_, refl, sym, _∙_, ap}
 use mathlib.Core.Logic.{_↔_, _≢_, Iff·trans}
 use mathlib.Core.Bool.{Bool, true, false, cond, _&&_, true≢false, false≢true}
-use mathlib.Core.List.{List, [], _∷_}
-use lib.Dec.{eqb, ltb}
+use mathlib.Core.List.{_∷_}
+use lib.Dec.{ltb}
 use lib.ListN.{length}
 use borrow.Author.Tests.{eqb-true, eq-eqb, ne-eqb, lt-ltb, ltb-true}
-use Rattle.lists.specs.Lists.{any, Every}
+use Rattle.lists.specs.Lists.{any}
 use Rattle.lists.proofs.Every.{every-map, any-none}
-use Rattle.records.specs.declared.Record.{Record}
 use Rattle.records.specs.declared.Record.the-variants.{Commit}
 use Rattle.records.specs.declared.Row.{Row}
 use Rattle.records.specs.Written.{History, isStart, isCommit, isWrite, startLine, commitLine, wrote, KeepsWC}

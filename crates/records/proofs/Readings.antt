@@ -4,17 +4,18 @@ use native.Mathlib.Omega.{arith}
 use native.Mathlib.Decide.{ℕ-discrete}
 use mathlib.Core.Path.{_≡_, refl, sym, _∙_, ap}
 use mathlib.Core.Logic.{_≢_, _⊎_, inl, inr}
-use mathlib.Core.Bool.{Bool, true, false, cond, not, _&&_, _||_, or-true, true≢false, false≢true}
-use mathlib.Core.List.{List, [], _∷_}
+use mathlib.Core.Bool.{Bool, true, false, cond, not, _&&_, _||_, true≢false, false≢true}
+use mathlib.Core.List.{_∷_}
 use lib.Dec.{eqb}
 use lib.ListN.{length}
 use borrow.Author.Tests.{eqb-true, eq-eqb, ne-eqb}
-use Rattle.lists.specs.Lists.{any, filter, Every, none, also}
+use Rattle.lists.specs.Lists.{any, filter, Every, also}
 use Rattle.records.specs.declared.Record.{Record}
 use Rattle.records.specs.declared.Record.the-variants.{Start, Tune, Read, Write, Commit, Abort}
-use Rattle.records.specs.Written.{History, ReadLine, readLines, recordedReads, isOwn, isCommit, isWrite, commitLine, wrote, versionLines, KeepsRC}
+use Rattle.records.specs.Written.{History, ReadLine, readLines, recordedReads, isOwn, isCommit, commitLine, wrote, versionLines, KeepsRC}
 use Rattle.records.specs.Ledger.{Ledger, nameOf, nowhere}
-use Rattle.records.specs.Judge.{Taken, isAbort}
+use Rattle.records.specs.Mirror.{isAbort}
+use Rattle.records.specs.Judge.{Taken}
 use Rattle.records.proofs.Lines.{line-none, any-past}
 use Rattle.records.proofs.Runs.{Ran, bare, began, moved, ran}
 use Rattle.records.proofs.Fields.{other-commit, other-abort, not-ended}

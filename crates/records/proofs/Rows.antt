@@ -1,21 +1,19 @@
 -- The rows of a ledger, found and changed by name: what each search answers after a change. Every list of rows is taken.
-use Prim.Native.Nat.{ℕ, suc, _+_, _<_}
+use Prim.Native.Nat.{ℕ, suc, _+_}
 use native.Mathlib.Omega.{arith}
-use native.Mathlib.Decide.{ℕ-discrete}
 use mathlib.Core.Path.{_≡_, refl, sym, _∙_, ap}
 use mathlib.Core.Logic.{_≢_}
 use mathlib.Core.Bool.{Bool, true, false, cond, _||_, or-true, true≢false, false≢true}
 use mathlib.Core.List.{List, [], _∷_, map}
 use lib.Dec.{eqb}
-use lib.ListN.{length}
-use borrow.Author.Tests.{eqb-true, eqb-false, eq-eqb, ne-eqb}
+use borrow.Author.Tests.{eqb-true, eq-eqb, ne-eqb}
 use Rattle.lists.specs.Lists.{any, count, Every, none, also}
 use Rattle.lists.specs.Distinct.{Distinct, fresh}
-use Rattle.lists.proofs.Every.{every-map, every-both}
+use Rattle.lists.proofs.Every.{every-both}
 use Rattle.records.specs.declared.Row.{Row}
 use Rattle.records.specs.declared.Record.{Record}
 use Rattle.records.specs.declared.Record.the-variants.{Start, Tune, Read, Write, Commit, Abort}
-use Rattle.records.specs.Ledger.{rowOf, become, named, isOpen, noRow, nowhere, changed, isRecorded, withLast}
+use Rattle.records.specs.Ledger.{rowOf, become, named, isOpen, noRow, changed, isRecorded, withLast}
 
 -- a name that no row has gets the row that has ended
 pub unnamed : (rs : List Row) (t : ℕ) → any (named t) rs ≡ false → rowOf rs t ≡ noRow

@@ -1,31 +1,28 @@
 -- At the commit line the tests on the ledger say what the rules say of the lines before it; and no later line changes what they say.
-use Prim.Native.Nat.{ℕ, suc, _+_, _≤_, _<_}
+use Prim.Native.Nat.{ℕ, _≤_, _<_}
 use native.Mathlib.Omega.{arith}
-use native.Mathlib.Decide.{ℕ-discrete}
-use mathlib.Core.Path.{_≡_, refl, sym, _∙_, ap, ap₂, subst}
-use mathlib.Core.Logic.{_↔_, _≢_, _⊎_, inl, inr, Iff·rfl, Iff·trans}
+use mathlib.Core.Path.{_≡_, refl, _∙_, ap, ap₂}
+use mathlib.Core.Logic.{_↔_, _⊎_, inl, inr}
 use mathlib.Core.Bool.{Bool, true, false, cond, not, _&&_, _||_, or-true, true≢false, false≢true}
-use mathlib.Core.List.{List, [], _∷_}
+use mathlib.Core.List.{List}
 use lib.Dec.{T, eqb, ltb}
 use lib.IntN.{ℤ, pos, negℤ, _-ℤ_}
 use lib.ListN.{length}
 use lib.Signed.{ltZ, leZ, _<ℤ_, _≤ℤ_}
 use borrow.Author.Tests.{eqb-true, eqb-false, eq-eqb, ne-eqb, lt-ltb, le-ltb, ltb-true, ltb-false}
-use Rattle.lists.specs.Lists.{any, Every, none, also}
+use Rattle.lists.specs.Lists.{any}
 use Rattle.lists.specs.Along.{Along}
-use Rattle.lists.proofs.Every.{every-map, every-both}
-use Rattle.lists.proofs.Along.{every-iff, along-with, along-any}
+use Rattle.lists.proofs.Along.{along-with, along-any}
 use Rattle.units.specs.declared.Bounds.{Bounds}
-use Rattle.records.specs.declared.Record.{Record}
 use Rattle.records.specs.declared.Row.{Row}
 use Rattle.records.specs.declared.Seen.{Seen}
 use Rattle.records.specs.Written.{History, ReadLine, recordedReads, isStart, startLine, commitLine, boundsIn, wrote, stampOf, upTo, between, distanceIn, KeepsRC, KeepsBV, KeepsFV, KeepsSV}
 use Rattle.records.specs.Ledger.{Ledger, rowOf, nowhere, chain, unread, stale, early, apart, seenDistance, rowsUpTo, rowsBetween}
-use Rattle.records.specs.Judge.{keeps, Resolves}
+use Rattle.records.specs.Mirror.{keeps, Resolves}
 use Rattle.records.proofs.Lines.{line-le}
 use Rattle.records.proofs.Runs.{Ran}
 use Rattle.records.proofs.Fields.{start-tied, bounds-tied}
-use Rattle.records.proofs.Counts.{up-to-tied, between-tied, up-to-stays, between-stays}
+use Rattle.records.proofs.Counts.{up-to-tied, between-tied}
 use Rattle.records.proofs.Chains.{reads-tied, reads-below, stamp-le}
 
 not-tests : (b : Bool) → (not b ≡ false) ↔ T b

@@ -1,20 +1,20 @@
 -- Histories whose lines were all taken, by what each line did: it started a transaction, or it moved one that is open. And that a history
 -- leads to one ledger.
-use Prim.Native.Nat.{ℕ, suc, _<_}
+use Prim.Native.Nat.{ℕ, suc}
 use native.Mathlib.Omega.{arith}
-use mathlib.Core.Path.{_≡_, refl, sym, _∙_, ap, subst}
-use mathlib.Core.Logic.{_≢_}
-use mathlib.Core.Bool.{Bool, true, false, cond, _||_, true≢false, false≢true}
-use mathlib.Core.List.{List, [], _∷_}
+use mathlib.Core.Path.{_≡_, refl, subst}
+use mathlib.Core.Bool.{Bool, true, false, cond}
+use mathlib.Core.List.{[], _∷_}
 use lib.Dec.{leb}
 use lib.ListN.{length}
-use Rattle.lists.specs.Lists.{any, Every, none, also}
+use Rattle.lists.specs.Lists.{any}
 use Rattle.records.specs.declared.Record.{Record}
 use Rattle.records.specs.declared.Record.the-variants.{Start, Tune, Read, Write, Commit, Abort}
 use Rattle.records.specs.declared.Row.{Row}
 use Rattle.records.specs.Written.{History}
 use Rattle.records.specs.Ledger.{Ledger, blank, Outcome, refused, went, step, begun, rowOf, become, named, nameOf, isOpen, freshRow, changed, noted, concluded}
-use Rattle.records.specs.Judge.{Taken, nothing, line, next, after, starts}
+use Rattle.records.specs.Tally.{starts}
+use Rattle.records.specs.Judge.{Taken, nothing, line, next, after}
 
 abbrev pub begunAt : ℕ → ℕ → Ledger → Ledger
 begunAt n t l = record { rows = freshRow n t ∷ l .rows; seens = l .seens; judged = l .judged }

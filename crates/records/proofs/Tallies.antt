@@ -1,10 +1,9 @@
 -- The totals raised a line at a time are the numbers of records of each kind, and the transactions still open.
-use Prim.Native.Nat.{ℕ, suc, _+_, _-_, _≤_, _<_, min}
+use Prim.Native.Nat.{ℕ, suc, _+_, _-_, _≤_}
 use native.Mathlib.Omega.{arith}
 use mathlib.Core.Path.{_≡_, refl, sym, _∙_, ap}
 use mathlib.Core.Bool.{Bool, true, false, cond, true≢false}
-use mathlib.Core.List.{List, [], _∷_}
-use lib.Dec.{eqb}
+use mathlib.Core.List.{[], _∷_}
 use lib.ListN.{length}
 use borrow.Author.Tests.{ne-eqb}
 use Rattle.lists.specs.Lists.{count}
@@ -16,10 +15,11 @@ use Rattle.records.specs.declared.Totals.{Totals}
 use Rattle.records.specs.Written.{History}
 use Rattle.records.specs.Ledger.{Ledger, rowOf, nameOf, isOpen, nowhere, freshRow, changed, isRecorded}
 use Rattle.records.specs.Totals.{noTotals, raised, more}
-use Rattle.records.specs.Judge.{Taken, starts, commits, aborts, totalsOf, Counts}
+use Rattle.records.specs.Tally.{starts, commits, aborts, totalsOf, Counts}
+use Rattle.records.specs.Judge.{Taken}
 use Rattle.records.proofs.Rows.{open-there, become-count, one}
 use Rattle.records.proofs.Runs.{Ran, bare, began, moved, movedAt, ran}
-use Rattle.records.proofs.Fields.{rowAfter, read-keeps}
+use Rattle.records.proofs.Fields.{read-keeps}
 
 -- a total that each record of one kind raises
 module _ (f : Totals → ℕ) (p : Record → Bool) (zero-first : f noTotals ≡ 0) (raises : (e : Record) (n : Totals) → f (raised e n) ≡ cond (p e) (more (f n)) (f n)) where

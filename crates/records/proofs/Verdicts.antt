@@ -3,13 +3,13 @@
 use Prim.Native.Nat.{ℕ, suc, _≤_, _<_}
 use native.Mathlib.Omega.{arith}
 use mathlib.Core.Path.{_≡_, refl, sym, _∙_, ap, subst}
-use mathlib.Core.Logic.{_↔_, _≢_, Iff·rfl}
+use mathlib.Core.Logic.{_↔_, Iff·rfl}
 use mathlib.Core.Bool.{Bool, true, false, not, true≢false}
-use mathlib.Core.List.{List, [], _∷_, map, reverse}
+use mathlib.Core.List.{[], _∷_, map, reverse}
 use lib.Dec.{T, T-not, eqb, eqb-refl}
-use lib.ListN.{length}
-use borrow.Author.Tests.{eqb-true, eqb-false, eq-eqb}
-use Rattle.lists.specs.Lists.{any, Every, none, also}
+use lib.ListN.{length, length-map}
+use borrow.Author.Tests.{eqb-false, eq-eqb}
+use Rattle.lists.specs.Lists.{any, count, Every, none, also}
 use Rattle.lists.specs.Distinct.{Distinct, bare as none-there, fresh}
 use Rattle.lists.proofs.Every.{every-map, none-any}
 use Rattle.records.specs.declared.Record.{Record}
@@ -19,7 +19,8 @@ use Rattle.records.specs.declared.Verdict.the-variants.{Ok, RC, BV, FV, 
 use Rattle.records.specs.declared.Judged.{Judged}
 use Rattle.records.specs.Written.{History, isStart, isCommit, commitLine, KeepsRC, KeepsBV, KeepsFV, KeepsSV, KeepsWC}
 use Rattle.records.specs.Ledger.{Ledger, rowOf, nameOf, isOpen, nowhere, first, verdictOn, chain, concluded}
-use Rattle.records.specs.Judge.{Taken, starts, committedIn, Names}
+use Rattle.records.specs.Tally.{commits}
+use Rattle.records.specs.Judge.{Taken, committedIn, Names, Right}
 use Rattle.records.proofs.Lines.{line-here}
 use Rattle.records.proofs.Rows.{open-there}
 use Rattle.records.proofs.Runs.{Ran, bare, began, moved, ran}
@@ -123,8 +124,8 @@ code FV = 3
 code SV = 4
 code WC = 5
 
-no : {v w : Verdict} {A : Type 0} → T (not (eqb (code v) (code w))) → ¬ A → (v ≡ w) ↔ A
-no {v} {w} t n = (λ e. absurd (T-not (eqb (code v) (code w)) t (subst (λ (k : ℕ). T (eqb (code v) k)) (ap code e) (eqb-refl (code v)))), λ a. absurd (n a))
+other : {v w : Verdict} {A : Type 0} → T (not (eqb (code v) (code w))) → ¬ A → (v ≡ w) ↔ A
+other {v} {w} t n = (λ e. absurd (T-not (eqb (code v) (code w)) t (subst (λ (k : ℕ). T (eqb (code v) k)) (ap code e) (eqb-refl (code v)))), λ a. absurd (n a))
 
 just : {v : Verdict} {A : Type 0} → A → (v ≡ v) ↔ A
 just a = (λ e. a, λ k. refl)
@@ -134,22 +135,22 @@ names : {h : History} {t : ℕ} {v : Verdict} → First h t v → Names h t v
 names (keeps-all a b c d e) =
     record {
       ok = just (a, b, c, d, e);
-      rc = no tt (λ k. k a);
-      bv = no tt (λ k. k .1 b);
-      fv = no tt (λ k. k .2 c);
-      sv = no tt (λ k. k .3 d);
-      wc = no tt (λ k. k .4 e);
+      rc = other tt (λ k. k a);
+      bv = other tt (λ k. k .1 b);
+      fv = other tt (λ k. k .2 c);
+      sv = other tt (λ k. k .3 d);
+      wc = other tt (λ k. k .4 e);
     }
 names (breaks-rc a) =
-    record { ok = no tt (λ k. a (k .0)); rc = just a; bv = no tt (λ k. a (k .0)); fv = no tt (λ k. a (k .0)); sv = no tt (λ k. a (k .0)); wc = no tt (λ k. a (k .0)) }
+    record { ok = other tt (λ k. a (k .0)); rc = just a; bv = other tt (λ k. a (k .0)); fv = other tt (λ k. a (k .0)); sv = other tt (λ k. a (k .0)); wc = other tt (λ k. a (k .0)) }
 names (breaks-bv a b) =
-    record { ok = no tt (λ k. b (k .1)); rc = no tt (λ k. k a); bv = just (a, b); fv = no tt (λ k. b (k .1)); sv = no tt (λ k. b (k .1)); wc = no tt (λ k. b (k .1)) }
+    record { ok = other tt (λ k. b (k .1)); rc = other tt (λ k. k a); bv = just (a, b); fv = other tt (λ k. b (k .1)); sv = other tt (λ k. b (k .1)); wc = other tt (λ k. b (k .1)) }
 names (breaks-fv a b c) =
-    record { ok = no tt (λ k. c (k .2)); rc = no tt (λ k. k a); bv = no tt (λ k. k .1 b); fv = just (a, b, c); sv = no tt (λ k. c (k .2)); wc = no tt (λ k. c (k .2)) }
+    record { ok = other tt (λ k. c (k .2)); rc = other tt (λ k. k a); bv = other tt (λ k. k .1 b); fv = just (a, b, c); sv = other tt (λ k. c (k .2)); wc = other tt (λ k. c (k .2)) }
 names (breaks-sv a b c d) =
-    record { ok = no tt (λ k. d (k .3)); rc = no tt (λ k. k a); bv = no tt (λ k. k .1 b); fv = no tt (λ k. k .2 c); sv = just (a, b, c, d); wc = no tt (λ k. d (k .3)) }
+    record { ok = other tt (λ k. d (k .3)); rc = other tt (λ k. k a); bv = other tt (λ k. k .1 b); fv = other tt (λ k. k .2 c); sv = just (a, b, c, d); wc = other tt (λ k. d (k .3)) }
 names (breaks-wc a b c d e) =
-    record { ok = no tt (λ k. e (k .4)); rc = no tt (λ k. k a); bv = no tt (λ k. k .1 b); fv = no tt (λ k. k .2 c); sv = no tt (λ k. k .3 d); wc = just (a, b, c, d, e) }
+    record { ok = other tt (λ k. e (k .4)); rc = other tt (λ k. k a); bv = other tt (λ k. k .1 b); fv = other tt (λ k. k .2 c); sv = other tt (λ k. k .3 d); wc = just (a, b, c, d, e) }
 
 -- each committed transaction is judged, in order of commit lines
 judged-names : {h : History} {l : Ledger} → Ran h l → map (λ (j : Judged). j .name) (l .judged) ≡ committedIn h
@@ -168,7 +169,7 @@ judged-names (moved {h} {e} {l} r s o) = concludes e (judged-names r)
     concludes (Abort t) k = k
 
 -- a name stands among them exactly if it has a commit line
-pub committed-any : (h : History) (t : ℕ) → any (λ (n : ℕ). eqb n t) (committedIn h) ≡ any (isCommit t) h
+committed-any : (h : History) (t : ℕ) → any (λ (n : ℕ). eqb n t) (committedIn h) ≡ any (isCommit t) h
 unfolding any committedIn
 committed-any [] t = refl
 committed-any (Start u ∷ h) t = committed-any h t
@@ -192,15 +193,24 @@ committed-once (moved {h} {e} {l} r s o) small = adds e (not-ended {e = e} (move
     adds (Commit t) n k = fresh (every-map (λ m e q. eqb-false m t e (sym q)) (none-any (λ (m : ℕ). eqb m t) (committedIn h) (committed-any h t ∙ n))) k
     adds (Abort t) n k = k
 
-module _ {h : History} {l : Ledger} (taken : Taken h l) where
-  -- "for each, in order of commit lines": oldest first
-  pub judged-in-order : reverse (map (λ (j : Judged). j .name) (l .judged)) ≡ reverse (committedIn h)
-  judged-in-order = ap reverse (judged-names (ran taken))
+-- as many as commit lines
+committed-number : (h : History) → length (committedIn h) ≡ count commits h
+unfolding committedIn count
+committed-number [] = refl
+committed-number (Start t ∷ h) = committed-number h
+committed-number (Tune t b ∷ h) = committed-number h
+committed-number (Read t x w ∷ h) = committed-number h
+committed-number (Write t x ∷ h) = committed-number h
+committed-number (Commit t ∷ h) = ap suc (committed-number h)
+committed-number (Abort t ∷ h) = committed-number h
 
-  module _ (lines : length h ≤ 4096) where
-    pub judged-once : Distinct (committedIn h)
-    judged-once = committed-once (ran taken) (omega arith)
-
-    -- "The first broken of RC, BV, FV, SV, WC is named"
-    pub judged-right : Every (λ (j : Judged). Names h (j .name) (j .verdict)) (l .judged)
-    judged-right = every-map (λ j k. names (k .right)) (judging (ran taken) (omega arith))
+pub judge-right : {h : History} {l : Ledger} → Taken h l → length h ≤ 4096 → Right h l
+judge-right {h} {l} taken lines =
+    let r = ran taken in
+    record {
+      order = ap reverse (judged-names r);
+      those = committed-any h;
+      once = committed-once r (omega arith);
+      number = sym (length-map (l .judged) (λ (j : Judged). j .name)) ∙ ap length (judged-names r) ∙ committed-number h;
+      verdicts = every-map (λ j k. names (k .right)) (judging r (omega arith));
+    }

@@ -3,12 +3,11 @@ use Prim.Native.Nat.{ℕ, zero, suc, _+_, _-_, _*_, _/_, _%_, _^_, _≤_, _<_, m
 use native.Mathlib.Omega.{arith}
 use native.Mathlib.Nat.{div-one, div-self, div-eq-of-lt, mul-mod-left, pow-suc, mul-comm, zero-div, div-div-eq-div-mul}
 use native.Mathlib.Decide.{ℕ-discrete, decLt}
-use native.Mathlib.Numerals.{add-one}
 use mathlib.Core.Path.{_≡_, refl, sym, _∙_, ap}
 use mathlib.Core.Logic.{_↔_, _≢_}
 use mathlib.Core.Bool.{Bool, true, false, not, _||_, or-true, or-false}
 use lib.Bits.{bitAnd, bitOr, and-shr, or-shr, and-step, or-step}
-use lib.Pow.{pow-pos, pow-lt, pow-add, shl-shr, shr-shr}
+use lib.Pow.{pow-pos, pow-lt, pow-add, shl-shr}
 use lib.Dec.{eqb}
 use borrow.Author.Tests.{eqb-true, eqb-false, eq-eqb, ne-eqb, not-false}
 use Rattle.records.specs.Ledger.{has, plus, meets}

@@ -7,7 +7,8 @@ use Rattle.records.specs.declared.Verdict.the-variants.{Ok, FV}
 use Rattle.records.specs.declared.Judged.{Judged}
 use Rattle.records.specs.declared.Totals.{Totals}
 use Rattle.records.specs.Ledger.{Ledger}
-use Rattle.records.specs.Judge.{Taken, totalsOf}
+use Rattle.records.specs.Tally.{totalsOf}
+use Rattle.records.specs.Judge.{Taken}
 
 -- "`s 1`, `s 2`, `w 1 5`, `c 1`, `r 2 5 1`, `c 2`"
 abbrev pub lines : List Record
