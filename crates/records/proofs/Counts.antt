@@ -72,7 +72,8 @@ unfolding versionLines
 version-lines [] x = none
 version-lines (e ∷ h) x = go (makes x h e) (every-map (λ v k. (k .0, omega arith)) (version-lines h x))
   where
-    go : (b : Bool) → Every (λ (v : ℕ). (0 < v) × (v ≤ suc (length h))) (versionLines h x) → Every (λ (v : ℕ). (0 < v) × (v ≤ suc (length h))) (cond b (suc (length h) ∷ versionLines h x) (versionLines h x))
+    go : (b : Bool) → Every (λ (v : ℕ). (0 < v) × (v ≤ suc (length h))) (versionLines h x)
+        → Every (λ (v : ℕ). (0 < v) × (v ≤ suc (length h))) (cond b (suc (length h) ∷ versionLines h x) (versionLines h x))
     go true k = also {x = suc (length h)} (omega arith) k
     go false k = k
 

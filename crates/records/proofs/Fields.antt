@@ -153,7 +153,17 @@ module _ {B : Type 0} (f : Row → B) (F : History → ℕ → B)
       go : Dec (nameOf e ≡ t) → ((u : ℕ) → f (rowOf (l .rows) u) ≡ F h u) → f (rowOf (become (l .rows) (nameOf e) (rowAfter (suc (length h)) e l o)) t) ≡ F (e ∷ h) t
       go (yes q) ih =
           rw (← q, after-same (suc (length h)) e l o)
-          (moves h e (length (l .seens)) (rowOf (l .rows) (nameOf e)) (record { below = small; moving = s; name = open-named (l .rows) (nameOf e) o; unended = eqb-true (rowOf (l .rows) (nameOf e) .end) 0 o; started = sym (named-started r (nameOf e)) ∙ open-there (l .rows) (nameOf e) o }) (ih (nameOf e)))
+          (moves h e (length (l .seens)) (rowOf (l .rows) (nameOf e)) now (ih (nameOf e)))
+        where
+          now : Moves h e (rowOf (l .rows) (nameOf e))
+          now =
+              record {
+                below = small;
+                moving = s;
+                name = open-named (l .rows) (nameOf e) o;
+                unended = eqb-true (rowOf (l .rows) (nameOf e) .end) 0 o;
+                started = sym (named-started r (nameOf e)) ∙ open-there (l .rows) (nameOf e) o;
+              }
       go (no n) ih = rw (after-other (suc (length h)) e l o t n) (ih t ∙ sym (others e h t n))
 
 -- a read moves at most the last recorded read of its row

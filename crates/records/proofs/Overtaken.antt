@@ -41,7 +41,12 @@ module _ {h : History} {l : Ledger} (r : Ran h l) (small : length h < nowhere) (
 
   free-tests : (any (overtakes (suc (length h)) (rowOf (l .rows) t)) (l .rows) ≡ false) ↔ Free
   unfolding Free
-  free-tests = (to, λ k. any-none (overtakes (suc (length h)) (rowOf (l .rows) t)) (every-map (λ q e. from k q e (overtakes (suc (length h)) (rowOf (l .rows) t) q) refl) (own-row (l .rows) (names-distinct r))))
+  free-tests = (
+    to,
+    λ k. any-none
+        (overtakes (suc (length h)) (rowOf (l .rows) t))
+        (every-map (λ q e. from k q e (overtakes (suc (length h)) (rowOf (l .rows) t) q) refl) (own-row (l .rows) (names-distinct r))),
+  )
     where
       to : any (overtakes (suc (length h)) (rowOf (l .rows) t)) (l .rows) ≡ false → Free
       to e u x n wt wu a = true≢false (sym (any-row (overtakes (suc (length h)) (rowOf (l .rows) t)) (l .rows) u (committed-named r u c) over) ∙ e)
@@ -66,7 +71,11 @@ module _ {h : History} {l : Ledger} (r : Ran h l) (small : length h < nowhere) (
           let b : q .end < suc (length h) = ltb-true _ _ (m .0) in
           let z : q .end ≡ commitLine h (q .name) = rw (lt-ltb (q .end) nowhere (omega arith)) at (ap (λ (p : Row). landed (p .end)) (sym e) ∙ commit-tied r small (q .name)) in
           let own : q .name ≡ t → q .end ≡ 0 = λ i. ap (λ (p : Row). p .end) (sym e) ∙ ap (λ (n : ℕ). rowOf (l .rows) n .end) i ∙ eqb-true _ 0 o in
-          absurd (true≢false (sym (m .1) ∙ meets-none (q .keys) (rowOf (l .rows) t .keys) .1 (λ x hq ht. k (q .name) x (λ i. omega (arith, own i)) (sym (keys-tied r (omega arith) t x) ∙ ht) (sym (keys-tied r (omega arith) (q .name) x) ∙ ap (λ (p : Row). has (p .keys) x) e ∙ hq) (omega (arith, a, z, start-tied r (omega arith) t)))))
+          let apart : meets (q .keys) (rowOf (l .rows) t .keys) ≡ false = meets-none (q .keys) (rowOf (l .rows) t .keys) .1 (λ x hq ht.
+          k (q .name) x (λ i. omega (arith, own i)) (sym (keys-tied r (omega arith) t x) ∙ ht)
+          (sym (keys-tied r (omega arith) (q .name) x) ∙ ap (λ (p : Row). has (p .keys) x) e ∙ hq)
+          (omega (arith, a, z, start-tied r (omega arith) t))) in
+          absurd (true≢false (sym (m .1) ∙ apart))
       from k q e false v = refl
 
   -- at the commit line, every commit line before it is below it

@@ -3,7 +3,7 @@ use Prim.Native.Nat.{ℕ, suc, _≤_, _<_}
 use native.Mathlib.Omega.{arith}
 use native.Mathlib.Decide.{ℕ-discrete}
 use mathlib.Core.Path.{_≡_, refl, sym, _∙_, ap}
-use mathlib.Core.Logic.{_≢_, _⊎_, inl, inr}
+use mathlib.Core.Logic.{_≢_, inl, inr}
 use mathlib.Core.Bool.{Bool, true, false, cond, not, _&&_, _||_, true≢false, false≢true}
 use mathlib.Core.List.{_∷_}
 use lib.Dec.{eqb}
@@ -18,6 +18,7 @@ use Rattle.records.specs.Mirror.{isAbort}
 use Rattle.records.specs.Judge.{Taken}
 use Rattle.records.proofs.Lines.{line-none, any-past}
 use Rattle.records.proofs.Runs.{Ran, bare, began, moved, ran}
+use Rattle.records.proofs.Rules.{WithinRC}
 use Rattle.records.proofs.Fields.{other-commit, other-abort, not-ended}
 
 module _ (h : History) (t x : ℕ) where
@@ -49,7 +50,7 @@ module _ (h : History) (t x : ℕ) where
     breaks : (eqb w t && wrote h t x) ≡ false → ((wrote h w x ≡ true) → 0 < commitLine h w → ⊥) → ¬ KeepsRC (Read t x w ∷ h) t
     breaks k f rc = go (rw (recorded k) at rc)
       where
-        go : Every (λ (p : ReadLine). (p .source ≡ 0) ⊎ ((wrote (p .before) (p .source) (p .key) ≡ true) × (0 < commitLine (p .before) (p .source)))) (record { key = x; source = w; before = h } ∷ recordedReads h t) → ⊥
+        go : Every WithinRC (record { key = x; source = w; before = h } ∷ recordedReads h t) → ⊥
         go (also (inl e) es) = version e
         go (also (inr e) es) = f (e .0) (e .1)
 
@@ -100,15 +101,12 @@ never-mended (Start u) h t k = k
 never-mended (Tune u b) h t k = k
 never-mended (Read u x w) h t k = go (eqb u t) (not (isOwn t (record { key = x; source = w; before = h }))) refl k
   where
-    P : ReadLine → Type 0
-    P p = (p .source ≡ 0) ⊎ ((wrote (p .before) (p .source) (p .key) ≡ true) × (0 < commitLine (p .before) (p .source)))
-
     go : (a b : Bool) → not (isOwn t (record { key = x; source = w; before = h })) ≡ b
-        → Every P (filter (λ (p : ReadLine). not (isOwn t p)) (cond a (record { key = x; source = w; before = h } ∷ readLines h t) (readLines h t)))
-        → Every P (recordedReads h t)
+        → Every WithinRC (filter (λ (p : ReadLine). not (isOwn t p)) (cond a (record { key = x; source = w; before = h } ∷ readLines h t) (readLines h t)))
+        → Every WithinRC (recordedReads h t)
     go true true e k = tail (rw e at k)
       where
-        tail : Every P (record { key = x; source = w; before = h } ∷ recordedReads h t) → Every P (recordedReads h t)
+        tail : Every WithinRC (record { key = x; source = w; before = h } ∷ recordedReads h t) → Every WithinRC (recordedReads h t)
         tail (also p ps) = ps
     go true false e k = rw e at k
     go false b e k = k

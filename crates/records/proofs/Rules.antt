@@ -30,7 +30,7 @@ not-tests true = (λ e. tt, λ h. refl)
 not-tests false = (λ e. true≢false e, λ h. absurd h)
 
 -- the reading rule of one read
-abbrev WithinRC : ReadLine → Type 0
+abbrev pub WithinRC : ReadLine → Type 0
 WithinRC x = (x .source ≡ 0) ⊎ ((wrote (x .before) (x .source) (x .key) ≡ true) × (0 < commitLine (x .before) (x .source)))
 
 keeps-within : (x : ReadLine) → keeps x ≡ true → WithinRC x
