@@ -4,3 +4,5 @@ pub mod Sets
 pub mod Every
 pub mod Members
 pub mod Count
+pub mod Filter
+pub mod Along

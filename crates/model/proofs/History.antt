@@ -12,7 +12,7 @@ use Rattle.lists.specs.Lists.{count, Every, none, also}
 use Rattle.lists.specs.Members.{In, here, below, Distinct, apart}
 use Rattle.lists.proofs.Every.{every-map, every-both}
 use Rattle.lists.proofs.Members.{every-in, in-every}
-use Rattle.lists.proofs.Count.{count-le, count-mono, count-more, count-none}
+use Rattle.lists.proofs.Count.{count-le, count-mono, count-above, count-none}
 use Rattle.model.proofs.Counts.{and-false}
 use Rattle.units.specs.declared.Version.{Version}
 use Rattle.transaction.specs.declared.Write.{Write}
@@ -54,7 +54,7 @@ upTo-mono log x {t} {u} h = count-mono _ _ (upTo-tests log x h)
 -- and one more where a version stands between
 pub upTo-more : {log : List Entry} {e : Entry} (x t u : ℕ) → In e log → e .key ≡ x → t < e .stamp → e .stamp ≤ u → upTo log x t < upTo log x u
 unfolding upTo
-upTo-more {log} {e} x t u i q h k = count-more _ _ (upTo-tests log x (omega arith)) i (rw (lt-leb _ _ h) (and-false (ofKey x e))) (rw (eq-eqb _ _ q) (le-leb _ _ k))
+upTo-more {log} {e} x t u i q h k = count-above _ _ (upTo-tests log x (omega arith)) i (rw (lt-leb _ _ h) (and-false (ofKey x e))) (rw (eq-eqb _ _ q) (le-leb _ _ k))
 
 pub length-installed : (log : List Entry) (stamp : ℕ) (ws : List Write) → length (installed log stamp ws) ≡ length log + length ws
 unfolding installed

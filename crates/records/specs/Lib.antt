@@ -1,3 +1,7 @@
 pub mod Written
 pub mod Ledger
 pub mod Totals
+pub mod Tally
+pub mod Mirror
+pub mod Judge
+pub mod Example

@@ -1,0 +1,16 @@
+pub mod Word
+pub mod Rows
+pub mod Runs
+pub mod Lines
+pub mod Fields
+pub mod Counts
+pub mod Chains
+pub mod Mirror
+pub mod Rules
+pub mod Later
+pub mod Overtaken
+pub mod Verdicts
+pub mod Tallies
+pub mod Refused
+pub mod Readings
+pub mod Example

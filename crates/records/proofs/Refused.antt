@@ -1,0 +1,77 @@
+-- A line is refused exactly where document 01's table says so of the lines before it, with the table's number.
+use Prim.Native.Nat.{ℕ, suc, _≤_}
+use native.Mathlib.Omega.{arith}
+use mathlib.Core.Path.{_≡_, refl, sym, _∙_, ap}
+use mathlib.Core.Bool.{Bool, true, false, cond, not, _&&_, _||_, true≢false, false≢true}
+use lib.Dec.{eqb, leb}
+use lib.ListN.{length, length-map}
+use borrow.Author.Tests.{ne-eqb}
+use Rattle.lists.specs.Lists.{any, count}
+use Rattle.lists.proofs.Count.{count-empty, count-step}
+use Rattle.records.specs.declared.Record.{Record}
+use Rattle.records.specs.declared.Record.the-variants.{Start, Tune, Read, Write, Commit, Abort}
+use Rattle.records.specs.declared.Row.{Row}
+use Rattle.records.specs.Written.{History, isStart, isCommit, commitLine}
+use Rattle.records.specs.Ledger.{Ledger, refused, went, rowOf, nameOf, isOpen, nowhere, step}
+use Rattle.records.specs.Tally.{starts}
+use Rattle.records.specs.Mirror.{isAbort, endIn, openIn, refusalIn, numberOf}
+use Rattle.records.specs.Judge.{Taken}
+use Rattle.records.proofs.Lines.{line-some}
+use Rattle.records.proofs.Rows.{become-names, one}
+use Rattle.records.proofs.Runs.{Ran, bare, began, moved, movedAt, ran}
+use Rattle.records.proofs.Fields.{rowAfter, after-name, named-started, end-tied}
+
+-- as many rows as starts
+rows-counted : {h : History} {l : Ledger} → Ran h l → length (l .rows) ≡ count starts h
+rows-counted bare = sym (count-empty starts)
+rows-counted (began {h} {t = t} {l = l} r k) = omega (arith, rows-counted r, count-step starts (Start t) h)
+rows-counted (moved {h} {e} {l} r s o) = omega (arith, become-length, rows-counted r, count-step starts e h, ap one s)
+  where
+    become-length : length (movedAt (suc (length h)) e l .rows) ≡ length (l .rows)
+    become-length =
+        sym (length-map (movedAt (suc (length h)) e l .rows) (λ (q : Row). q .name))
+        ∙ ap length (become-names (nameOf e) (rowAfter (suc (length h)) e l o) (after-name (suc (length h)) e l o) (l .rows))
+        ∙ length-map (l .rows) (λ (q : Row). q .name)
+
+-- a row is open exactly if its transaction is
+open-exactly : (h : History) (t : ℕ) → eqb (endIn h t) 0 ≡ openIn h t
+unfolding endIn
+open-exactly h t = go (any (isCommit t) h) refl (any (isAbort t) h) (any (isStart t) h)
+  where
+    go : (a : Bool) → any (isCommit t) h ≡ a → (b c : Bool) → eqb (cond a (commitLine h t) (cond b nowhere (cond c 0 nowhere))) 0 ≡ (c && not (a || b))
+    go true e b true = ne-eqb (commitLine h t) 0 (λ q. omega (arith, line-some (isCommit t) h e))
+    go true e b false = ne-eqb (commitLine h t) 0 (λ q. omega (arith, line-some (isCommit t) h e))
+    go false e true true = refl
+    go false e true false = refl
+    go false e false true = refl
+    go false e false false = refl
+
+-- what a test leaves of two outcomes
+either : (n : ℕ) (a b : Bool) (l : Ledger) → a ≡ b → numberOf (cond a (went l) (refused n)) ≡ cond b 0 n
+either n true true l e = refl
+either n true false l e = absurd (true≢false e)
+either n false true l e = absurd (false≢true e)
+either n false false l e = refl
+
+pub refused-exactly : {h : History} {l : Ledger} → Taken h l → length h ≤ 4096 → (e : Record) → numberOf (step (suc (length h)) e l) ≡ refusalIn h e
+unfolding step refusalIn
+refused-exactly {h} {l} taken lines = go
+  where
+    r : Ran h l
+    r = ran taken
+
+    is-open : (t : ℕ) → isOpen (rowOf (l .rows) t) ≡ openIn h t
+    is-open t = ap (λ (n : ℕ). eqb n 0) (end-tied r (omega arith) t) ∙ open-exactly h t
+
+    used : (a b c d : Bool) (m : Ledger) → a ≡ b → c ≡ d → numberOf (cond a (refused 15) (cond c (refused 16) (went m))) ≡ cond b 15 (cond d 16 0)
+    used true b c d m e q = rw (← e)
+    used false b true d m e q = rw (← e, ← q)
+    used false b false d m e q = rw (← e, ← q)
+
+    go : (e : Record) → numberOf (step (suc (length h)) e l) ≡ refusalIn h e
+    go (Start t) = used _ _ _ _ _ (named-started r t) (ap (leb 512) (rows-counted r))
+    go (Tune t b) = either 15 _ _ _ (is-open t)
+    go (Read t x w) = either 15 _ _ _ (is-open t)
+    go (Write t x) = either 15 _ _ _ (is-open t)
+    go (Commit t) = either 15 _ _ _ (is-open t)
+    go (Abort t) = either 15 _ _ _ (is-open t)
