@@ -1,0 +1,19 @@
+// Numbers as decimal text: one reader and one writer for every field, over any range.
+mod read;
+mod write;
+
+pub use read::Field;
+pub use read::Natural;
+pub use read::Range;
+pub use read::Signed;
+pub use read::field_at;
+pub use read::natural_at;
+pub use read::signed_at;
+pub use write::Put;
+pub use write::put_byte;
+pub use write::put_natural;
+pub use write::put_signed;
+
+const ZERO: u8 = b'0';
+const NINE: u8 = b'9';
+const MINUS: u8 = b'-';
