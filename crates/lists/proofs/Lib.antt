@@ -1,2 +1,4 @@
 pub mod Find
 pub mod Length
+pub mod Sets
+pub mod Any
