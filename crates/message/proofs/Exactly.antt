@@ -86,24 +86,38 @@ module _ (stamp : ℕ) (s : List ℕ) (was : ℕ) (items : List Item) where
   unfolding itemsText
   read-last left at seen i e p h q =
       let c : (stamp ≡ was) × (items ≡ seen ++ (i ∷ [])) × (distinct (seen ++ (i ∷ [])) ≡ true) = closed-is stamp (seen ++ (i ∷ [])) was items q in
-      record { rest = i ∷ []; all = c .1; same = c .0;
+      record {
+        rest = i ∷ [];
+        all = c .1;
+        same = c .0;
         text = p .text ∙ ap (λ (l : List ℕ). itemText i ++ l) (ends-text s e h) ∙ ap (λ (l : List ℕ). l ++ (10 ∷ [])) (sym (append-nil (itemText i)));
-        ranges = also (p .ranges) none; some = omega arith; few = omega arith; apart = ap distinct (c .1) ∙ c .2 }
+        ranges = also (p .ranges) none;
+        some = omega arith;
+        few = omega arith;
+        apart = ap distinct (c .1) ∙ c .2;
+      }
 
   -- one version, and more
   read-more : (left at : ℕ) (seen : List Item) (i : Item) (e : ℕ) → ItemAt s at i e → ReadOn stamp left s e (seen ++ (i ∷ [])) was items → ReadOn stamp (suc left) s at seen was items
   unfolding itemsText
   read-more left at seen i e p r =
-      record { rest = i ∷ r .rest; all = r .all ∙ append-assoc seen (i ∷ []) (r .rest); same = r .same;
+      record {
+        rest = i ∷ r .rest;
+        all = r .all ∙ append-assoc seen (i ∷ []) (r .rest);
+        same = r .same;
         text = p .text ∙ ap (λ (l : List ℕ). itemText i ++ l) (r .text) ∙ sym (append-assoc (itemText i) (itemsText (r .rest)) (10 ∷ []));
-        ranges = also (p .ranges) (r .ranges); some = omega arith; few = omega (arith, r .few); apart = r .apart }
+        ranges = also (p .ranges) (r .ranges);
+        some = omega arith;
+        few = omega (arith, r .few);
+        apart = r .apart;
+      }
 
   items-read : (left at : ℕ) (seen : List Item) → itemsAt stamp left s at seen ≡ whole was items → ReadOn stamp left s at seen was items
   unfolding itemsAt
   items-read zero at seen q = no-reading was items q
   items-read (suc left) at seen q =
       let t : TookPiece (itemAt s at) (λ i e. cond (endsAt s e) (closed stamp (seen ++ (i ∷ []))) (itemsAt stamp left s e (seen ++ (i ∷ [])))) (whole was items) =
-            piece-took (itemAt s at) (λ i e. cond (endsAt s e) (closed stamp (seen ++ (i ∷ []))) (itemsAt stamp left s e (seen ++ (i ∷ [])))) bad (whole was items) (no-reading was items) q in
+      piece-took (itemAt s at) (λ i e. cond (endsAt s e) (closed stamp (seen ++ (i ∷ []))) (itemsAt stamp left s e (seen ++ (i ∷ [])))) bad (whole was items) (no-reading was items) q in
       go (t .i) (t .e) (item-reads s at (t .i) (t .e) (t .is)) (endsAt s (t .e)) refl (items-read left (t .e) (seen ++ (t .i ∷ []))) (t .goes)
     where
       go : (i : Item) (e : ℕ) → ItemAt s at i e → (t : Bool) → endsAt s e ≡ t → (itemsAt stamp left s e (seen ++ (i ∷ [])) ≡ whole was items → ReadOn stamp left s e (seen ++ (i ∷ [])) was items)
@@ -131,7 +145,7 @@ module _ (stamp : ℕ) (s : List ℕ) where
   items-back (suc left) at seen (i ∷ j ∷ rest) text (also p (also q ps)) some few d =
       let f : (itemAt s at ≡ Piece.At i (at + length (itemText i))) × (drop (at + length (itemText i)) s ≡ itemsText (j ∷ rest) ++ (10 ∷ [])) = first-back at i (j ∷ rest) text p in
       let again : itemsAt stamp left s (at + length (itemText i)) (seen ++ (i ∷ [])) ≡ whole stamp ((seen ++ (i ∷ [])) ++ (j ∷ rest)) =
-            items-back left (at + length (itemText i)) (seen ++ (i ∷ [])) (j ∷ rest) (f .1) (also q ps) (omega arith) (omega arith) (ap distinct (append-assoc seen (i ∷ []) (j ∷ rest)) ∙ d) in
+      items-back left (at + length (itemText i)) (seen ++ (i ∷ [])) (j ∷ rest) (f .1) (also q ps) (omega arith) (omega arith) (ap distinct (append-assoc seen (i ∷ []) (j ∷ rest)) ∙ d) in
       rw (f .0, goes-on s (at + length (itemText i)) _ (f .1)) (again ∙ ap (whole stamp) (append-assoc seen (i ∷ []) (j ∷ rest)))
 
 -- ---- the line
@@ -145,16 +159,24 @@ module _ (s : List ℕ) (stamp : ℕ) (items : List Item) where
       joined was e h t r =
           let first : s ≡ 112 ∷ drop 1 s = drop-cons s 0 0 (byte-within s 0 112 (omega arith) h) ∙ ap (λ (b : ℕ). b ∷ drop 1 s) (eqb-true (getD s 0 0) 112 h) in
           let text : drop 1 s ≡ field (pos was) ++ itemsText items ++ (10 ∷ []) =
-                tabbed-text s 1 t
-                ∙ ap (λ (l : List ℕ). field (pos was) ++ l) (r .text ∙ ap (λ (l : List Item). itemsText l ++ (10 ∷ [])) (sym (r .all)))
-                ∙ sym (append-assoc (field (pos was)) (itemsText items) (10 ∷ [])) in
-          (first ∙ ap (λ (l : List ℕ). 112 ∷ l) text ∙ ap (λ (n : ℕ). 112 ∷ (field (pos n) ++ itemsText items ++ (10 ∷ []))) (r .same),
-          record { early = omega (arith, t .reads .within .0, r .same); late = omega (arith, t .reads .within .1, r .same);
-            some = rw (r .all) (r .some); few = rw (r .all) (r .few); ranges = rw (r .all) (r .ranges); apart = r .apart })
+          tabbed-text s 1 t
+          ∙ ap (λ (l : List ℕ). field (pos was) ++ l) (r .text ∙ ap (λ (l : List Item). itemsText l ++ (10 ∷ [])) (sym (r .all)))
+          ∙ sym (append-assoc (field (pos was)) (itemsText items) (10 ∷ [])) in (
+            first ∙ ap (λ (l : List ℕ). 112 ∷ l) text ∙ ap (λ (n : ℕ). 112 ∷ (field (pos n) ++ itemsText items ++ (10 ∷ []))) (r .same),
+            record {
+              early = omega (arith, t .reads .within .0, r .same);
+              late = omega (arith, t .reads .within .1, r .same);
+              some = rw (r .all) (r .some);
+              few = rw (r .all) (r .few);
+              ranges = rw (r .all) (r .ranges);
+              apart = r .apart;
+            },
+          )
+
       go : (t : Bool) → eqb (getD s 0 0) 112 ≡ t → cond t (onNumber (behindTab s 1 1 4294967295) (λ was e. itemsAt was 16 s e []) bad) bad ≡ whole stamp items → (s ≡ lineOf stamp items) × InForm stamp items
       go true h q =
           let t : Took (behindTab s 1 1 4294967295) (λ was e. itemsAt was 16 s e []) (whole stamp items) =
-                number-took (behindTab s 1 1 4294967295) (λ was e. itemsAt was 16 s e []) bad (whole stamp items) (no-reading stamp items) q in
+          number-took (behindTab s 1 1 4294967295) (λ was e. itemsAt was 16 s e []) bad (whole stamp items) (no-reading stamp items) q in
           joined (t .v) (t .e) h (number-tabbed s 1 1 4294967295 (t .v) (t .e) .0 (t .is)) (items-read (t .v) s stamp items 16 (t .e) [] (t .goes))
       go false h q = no-reading stamp items q
 
@@ -173,7 +195,7 @@ line-back stamp items f =
     let s : List ℕ = lineOf stamp items in
     let text : drop 1 s ≡ field (pos stamp) ++ (itemsText items ++ (10 ∷ [])) = line-behind stamp items in
     let t : Tabbed (naturals 1 4294967295) s 1 (pos stamp) (1 + length (field (pos stamp))) =
-          tabbed-at s 1 (naturals 1 4294967295) (pos stamp) (itemsText items ++ (10 ∷ [])) text (stops-items items []) (f .early, f .late) in
+    tabbed-at s 1 (naturals 1 4294967295) (pos stamp) (itemsText items ++ (10 ∷ [])) text (stops-items items []) (f .early, f .late) in
     let left : drop (1 + length (field (pos stamp))) s ≡ itemsText items ++ (10 ∷ []) = after s (field (pos stamp)) (itemsText items ++ (10 ∷ [])) 1 text in
     rw (line-starts stamp items, number-tabbed s 1 1 4294967295 stamp (1 + length (field (pos stamp))) .1 t)
     (items-back stamp s 16 (1 + length (field (pos stamp))) [] items left (f .ranges) (f .some) (f .few) (f .apart))

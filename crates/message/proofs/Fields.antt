@@ -67,7 +67,8 @@ module _ (s : List ℕ) (at : ℕ) where
   tabbed-at range z rest q n r =
       record {
         tab = eq-eqb (getD s at 0) 9 (sym (head-of s at) ∙ ap (λ (l : List ℕ). getD l 0 0) q);
-        reads = subst (Reads range s (at + 1) z) (omega arith) (reads-at range s (at + 1) z rest (after s (9 ∷ []) (plain z ++ rest) at q) n r) }
+        reads = subst (Reads range s (at + 1) z) (omega arith) (reads-at range s (at + 1) z rest (after s (9 ∷ []) (plain z ++ rest) at q) n r);
+      }
 
 pub value-small : (z : ℤ) → InRange values z → mag z < 2147483648
 value-small (pos v) h = omega arith

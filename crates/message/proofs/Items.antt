@@ -31,24 +31,25 @@ module _ (s : List ℕ) (at : ℕ) where
   joined k o v a b e p q r =
       record {
         text =
-          tabbed-text s at p
-          ∙ ap (λ (l : List ℕ). field (pos k) ++ l) (tabbed-text s a q ∙ ap (λ (l : List ℕ). field (pos o) ++ l) (tabbed-text s b r))
-          ∙ sym (append-assoc (field (pos k)) (field (pos o)) (field v ++ drop e s))
-          ∙ sym (append-assoc (field (pos k) ++ field (pos o)) (field v) (drop e s));
-        ranges = record { key = p .reads .within .1; first = q .reads .within .0; last = q .reads .within .1; value = r .reads .within } }
+            tabbed-text s at p
+            ∙ ap (λ (l : List ℕ). field (pos k) ++ l) (tabbed-text s a q ∙ ap (λ (l : List ℕ). field (pos o) ++ l) (tabbed-text s b r))
+            ∙ sym (append-assoc (field (pos k)) (field (pos o)) (field v ++ drop e s))
+            ∙ sym (append-assoc (field (pos k) ++ field (pos o)) (field v) (drop e s));
+        ranges = record { key = p .reads .within .1; first = q .reads .within .0; last = q .reads .within .1; value = r .reads .within };
+      }
 
   -- what is answered stands there
   pub item-reads : (i : Item) (e : ℕ) → itemAt s at ≡ Piece.At i e → ItemAt s at i e
   unfolding itemAt
   item-reads i e q =
       let t : Took (behindTab s at 0 63) (λ k a. onNumber (behindTab s a 1 4096) (λ o b. onValue (valueBehindTab s b) (λ v e. Piece.At (record { key = k; ordinal = record { 0 = o }; value = v }) e) Piece.Bad) Piece.Bad) (Piece.At i e) =
-            number-took (behindTab s at 0 63) (λ k a. onNumber (behindTab s a 1 4096) (λ o b. onValue (valueBehindTab s b) (λ v e. Piece.At (record { key = k; ordinal = record { 0 = o }; value = v }) e) Piece.Bad) Piece.Bad) Piece.Bad (Piece.At i e) (no-piece i e) q in
+      number-took (behindTab s at 0 63) (λ k a. onNumber (behindTab s a 1 4096) (λ o b. onValue (valueBehindTab s b) (λ v e. Piece.At (record { key = k; ordinal = record { 0 = o }; value = v }) e) Piece.Bad) Piece.Bad) Piece.Bad (Piece.At i e) (no-piece i e) q in
       let u : Took (behindTab s (t .e) 1 4096) (λ o b. onValue (valueBehindTab s b) (λ v e. Piece.At (record { key = t .v; ordinal = record { 0 = o }; value = v }) e) Piece.Bad) (Piece.At i e) =
-            number-took (behindTab s (t .e) 1 4096) (λ o b. onValue (valueBehindTab s b) (λ v e. Piece.At (record { key = t .v; ordinal = record { 0 = o }; value = v }) e) Piece.Bad) Piece.Bad (Piece.At i e) (no-piece i e) (t .goes) in
+      number-took (behindTab s (t .e) 1 4096) (λ o b. onValue (valueBehindTab s b) (λ v e. Piece.At (record { key = t .v; ordinal = record { 0 = o }; value = v }) e) Piece.Bad) Piece.Bad (Piece.At i e) (no-piece i e) (t .goes) in
       let w : TookValue (valueBehindTab s (u .e)) (λ v e. Piece.At (record { key = t .v; ordinal = record { 0 = u .v }; value = v }) e) (Piece.At i e) =
-            value-took (valueBehindTab s (u .e)) (λ v e. Piece.At (record { key = t .v; ordinal = record { 0 = u .v }; value = v }) e) Piece.Bad (Piece.At i e) (no-piece i e) (u .goes) in
+      value-took (valueBehindTab s (u .e)) (λ v e. Piece.At (record { key = t .v; ordinal = record { 0 = u .v }; value = v }) e) Piece.Bad (Piece.At i e) (no-piece i e) (u .goes) in
       let d : ItemAt s at (record { key = t .v; ordinal = record { 0 = u .v }; value = w .v }) (w .e) =
-            joined (t .v) (u .v) (w .v) (t .e) (u .e) (w .e) (number-tabbed s at 0 63 (t .v) (t .e) .0 (t .is)) (number-tabbed s (t .e) 1 4096 (u .v) (u .e) .0 (u .is)) (value-tabbed s (u .e) (w .v) (w .e) .0 (w .is)) in
+      joined (t .v) (u .v) (w .v) (t .e) (u .e) (w .e) (number-tabbed s at 0 63 (t .v) (t .e) .0 (t .is)) (number-tabbed s (t .e) 1 4096 (u .v) (u .e) .0 (u .is)) (value-tabbed s (u .e) (w .v) (w .e) .0 (w .is)) in
       same (record { key = t .v; ordinal = record { 0 = u .v }; value = w .v }) (w .e) (w .goes) d
     where
       same : (j : Item) (f : ℕ) → Piece.At j f ≡ Piece.At i e → ItemAt s at j f → ItemAt s at i e
@@ -68,9 +69,11 @@ module _ (s : List ℕ) (at : ℕ) where
       let text₂ : drop (at + length k) s ≡ o ++ (v ++ rest) = after s k (o ++ (v ++ rest)) at text in
       let text₃ : drop (at + length k + length o) s ≡ v ++ rest = after s o (v ++ rest) (at + length k) text₂ in
       let ends : at + length k + length o + length v ≡ at + length (k ++ o ++ v) = omega (arith, length-append (k ++ o) v, length-append k o) in
-      rw (number-tabbed s at 0 63 (i .key) (at + length k) .1 (tabbed-at s at (naturals 0 63) (pos (i .key)) (o ++ (v ++ rest)) text refl (omega arith, r .key)),
+      rw (
+        number-tabbed s at 0 63 (i .key) (at + length k) .1 (tabbed-at s at (naturals 0 63) (pos (i .key)) (o ++ (v ++ rest)) text refl (omega arith, r .key)),
         number-tabbed s (at + length k) 1 4096 (i .ordinal .0) (at + length k + length o) .1 (tabbed-at s (at + length k) (naturals 1 4096) (pos (i .ordinal .0)) (v ++ rest) text₂ refl (r .first, r .last)),
-        value-tabbed s (at + length k + length o) (i .value) (at + length k + length o + length v) .1 (tabbed-at s (at + length k + length o) values (i .value) rest text₃ n (r .value)))
+        value-tabbed s (at + length k + length o) (i .value) (at + length k + length o + length v) .1 (tabbed-at s (at + length k + length o) values (i .value) rest text₃ n (r .value)),
+      )
       (ap (Piece.At i) ends)
 
 -- what a reading of a version took

@@ -30,17 +30,21 @@ puts-length {b = b} {t = t} {at = at} p = ap length (p .text) ∙ put-length b a
 -- one text, then another behind it
 pub puts-then : {b c d t u : List ℕ} {at m r : ℕ} → Puts b c at t m → Puts c d m u r → at + length (t ++ u) ≤ length b → Puts b d at (t ++ u) r
 puts-then {b = b} {t = t} {u = u} {at = at} {m = m} p q room =
-    record { place = q .place ∙ omega (arith, length-append t u, p .place);
-      text = q .text ∙ ap (λ (l : List ℕ). put l m u) (p .text) ∙ ap (λ (k : ℕ). put (put b at t) k u) (p .place) ∙ put-put b at t u room }
+    record {
+      place = q .place ∙ omega (arith, length-append t u, p .place);
+      text = q .text ∙ ap (λ (l : List ℕ). put l m u) (p .text) ∙ ap (λ (k : ℕ). put (put b at t) k u) (p .place) ∙ put-put b at t u room;
+    }
 
 -- no text
 pub puts-none : (b : List ℕ) (at : ℕ) → at ≤ length b → Puts b b at [] at
 puts-none b at h =
-    record { place = sym (add-zero at);
+    record {
+      place = sym (add-zero at);
       text = sym (put-room b at [] (omega arith)
-        ∙ ap (λ (k : ℕ). take at b ++ [] ++ drop k b) (add-zero at)
-        ∙ ap (λ (l : List ℕ). l ++ drop at b) (append-nil (take at b))
-        ∙ take-append-drop at b) }
+          ∙ ap (λ (k : ℕ). take at b ++ [] ++ drop k b) (add-zero at)
+          ∙ ap (λ (l : List ℕ). l ++ drop at b) (append-nil (take at b))
+          ∙ take-append-drop at b);
+    }
 
 -- one byte
 pub puts-byte : (b : List ℕ) (at x : ℕ) → at < length b → Puts b (set b at x) at (x ∷ []) (at + 1)
@@ -111,10 +115,11 @@ module _ (b : List ℕ) (at : ℕ) (i : Item) (room : at + 27 ≤ length b) (k :
 
       pub item-put : {e : List ℕ} {r : ℕ} → Puts d e n (field (i .value)) r → (Puts b e at (itemText i) r) × (r ≤ at + 27)
       unfolding itemText
-      item-put s =
-          (puts-then (puts-then p q (omega (arith, long, length-append (field (pos (i .key))) (field (pos (i .ordinal .0)))))) s
+      item-put s = (
+        puts-then (puts-then p q (omega (arith, long, length-append (field (pos (i .key))) (field (pos (i .ordinal .0)))))) s
             (omega (arith, long, length-append (field (pos (i .key))) (field (pos (i .ordinal .0))), length-append (field (pos (i .key)) ++ field (pos (i .ordinal .0))) (field (i .value)))),
-          omega (arith, long, p .place, q .place, s .place))
+        omega (arith, long, p .place, q .place, s .place),
+      )
 
 -- ---- runs of versions
 

@@ -122,7 +122,7 @@ module _ (stamp : ℕ) (s : List ℕ) (from : ℕ) where
         unfolding closedMessage closed messageOf onward
         items-end t d =
             let x : closedMessage stamp more ≡ messageOf (closed stamp (f .seen ++ (i ∷ []))) =
-                  rw (made-now, batch-items (f .seen ++ (i ∷ [])) (omega (arith, long))) (both (distinct (f .seen ++ (i ∷ [])))) in
+            rw (made-now, batch-items (f .seen ++ (i ∷ [])) (omega (arith, long))) (both (distinct (f .seen ++ (i ∷ [])))) in
             d ∙ x ∙ ap messageOf (one-more true t)
           where
             both : (t : Bool) → cond t (message stamp (batchOf (f .seen ++ (i ∷ [])))) noMessage ≡ messageOf (cond t (whole stamp (f .seen ++ (i ∷ []))) bad)
@@ -132,3 +132,19 @@ module _ (stamp : ℕ) (s : List ℕ) (from : ℕ) where
         pub items-on : endsAt s e ≡ false → SoFar stamp s from more e (n + 1)
         unfolding onward
         items-on t = record { seen = f .seen ++ (i ∷ []); many = long; made = made-now; left = one-more false t }
+
+-- ---- the line
+
+module _ (s : List ℕ) {r : Message} where
+  pub line-no-letter : eqb (getD s 0 0) 112 ≡ false → r ≡ noMessage → r ≡ messageOf (readLine s)
+  unfolding readLine messageOf
+  line-no-letter h e = rw h e
+
+  module _ (h : eqb (getD s 0 0) 112 ≡ true) {n : Natural} (p : n ≡ behindTab s 1 1 4294967295) where
+    pub line-no-stamp : n ≡ Natural.Bad → r ≡ noMessage → r ≡ messageOf (readLine s)
+    unfolding readLine messageOf onNumber
+    line-no-stamp q e = rw (h, ← p, q) e
+
+    pub line-goes : {v e : ℕ} → n ≡ Natural.Number v e → r ≡ messageOf (itemsAt v 16 s e []) → r ≡ messageOf (readLine s)
+    unfolding readLine onNumber
+    line-goes q d = rw (h, ← p, q) d

@@ -7,7 +7,6 @@ ghost use lib.ListN.{getD, set, drop};
 ghost use Rattle.lists.specs.Lists.{any};
 ghost use Rattle.message.specs.Line.{named, distinct, itemsOf, batchOf};
 ghost use Rattle.message.specs.Read.{behindTab, valueBehindTab, itemAt, endsAt, itemsAt, readLine, messageOf, noMessage, closedMessage, pushed};
-
 use crate::LETTER;
 use crate::NEWLINE;
 use crate::TAB;

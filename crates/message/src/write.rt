@@ -6,7 +6,6 @@ ghost use lib.ListN.{length, take};
 ghost use Rattle.decimal.specs.Write.{put};
 ghost use Rattle.message.specs.Line.{field, itemText, itemsText, lineOf, itemsOf};
 ghost use Rattle.message.specs.Write.{Puts, sentAs};
-
 use crate::LETTER;
 use crate::NEWLINE;
 use crate::TAB;

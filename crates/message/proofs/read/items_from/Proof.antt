@@ -1,83 +1,69 @@
+-- `items_from` meets its contract. The invariant: the versions seen make the batch, and what is left of the line gives the whole answer.
+use Prim.Native.Nat.{_-_}
+use native.Mathlib.Omega.{arith}
+use mathlib.Core.Path.{sym, _∙_}
+use borrow.Author.Needs.{needs}
+use Rattle.message.proofs.Steps.{SoFar, nothing-yet, items-full, items-none, items-end, items-on}
 use Rattle.message.proofs.read.items_from.Statement.{statement}
 use Rattle.message.proofs.read.items_from.Tie as tie
-use Rattle.message.proofs.read.items_from.Reads as reads
-use Rattle.message.proofs.read.items_from.Lts as lts
-use Rattle.message.proofs.read.closed.Reads as closed-reads
-use Rattle.message.proofs.read.ends.Reads as ends-reads
-use Rattle.message.proofs.read.item_at.Reads as item-at-reads
-use Rattle.message.proofs.read.no_items.Reads as no-items-reads
-use Rattle.message.proofs.read.no_message.Reads as no-message-reads
-use Rattle.message.proofs.read.with_item.Reads as with-item-reads
 
 abbrev Inv-loop : tie.InvT-loop
-Inv-loop line stamp from batch₀ at₀ n₀ batch at n = ?
+Inv-loop line stamp from batch₀ at₀ n₀ batch at n = SoFar (stamp .0) line from batch at n
 
 abbrev μ-loop : tie.MeasureT-loop
-μ-loop line stamp from batch₀ at₀ n₀ batch at n = ?
+μ-loop line stamp from batch₀ at₀ n₀ batch at n = 16 - n
 
--- src/read.rt:59:9
 no-items-requires : tie.Need-no-items-requires Inv-loop μ-loop
-no-items-requires c κs = ?
+no-items-requires c κs = search needs
 
--- src/read.rt:62:5
 loop-holds : tie.Need-loop-holds Inv-loop μ-loop
-loop-holds c = ?
+loop-holds c = nothing-yet _ _ _ (c .no-items .ensures)
 
--- src/read.rt:63:34
 item-at-requires : tie.Need-item-at-requires Inv-loop μ-loop
-item-at-requires c κs = ?
+item-at-requires c κs = search needs
 
--- src/read.rt:63:23
 enum-known-item : tie.Need-enum-known-item Inv-loop μ-loop
-enum-known-item c = ?
+enum-known-item c = search needs
 
--- src/read.rt:64:13
 enum-told : tie.Need-enum-told Inv-loop μ-loop
-enum-told c = ?
+enum-told c = search needs
 
--- src/read.rt:64:13
 no-message-requires : tie.Need-no-message-requires Inv-loop μ-loop
-no-message-requires c κs = ?
+no-message-requires c κs = search needs
 
--- src/read.rt:64:13
 returns : tie.Need-returns Inv-loop μ-loop
-returns c = ?
+returns c = items-none _ _ _ (c .before .before .before .before .before .loop .inv) (c .before .before .before .before .loop-test .taken) (c .before .before .before .item-at .ensures) (c .before .enum-told .given .1) (c .no-message .ensures)
 
--- src/read.rt:66:9
 with-item-requires : tie.Need-with-item-requires Inv-loop μ-loop
-with-item-requires c κs = ?
+with-item-requires c κs = omega arith
 
--- src/read.rt:67:12
 ends-requires : tie.Need-ends-requires Inv-loop μ-loop
-ends-requires c κs = ?
+ends-requires c κs = search needs
 
--- src/read.rt:68:13
 closed-requires : tie.Need-closed-requires Inv-loop μ-loop
-closed-requires c κs = ?
+closed-requires c κs = search needs
 
--- src/read.rt:68:13
 returns-2 : tie.Need-returns-2 Inv-loop μ-loop
-returns-2 c = ?
+returns-2 c =
+    let d = c .before .before .before in
+    items-end _ _ _ (d .before .before .before .before .before .before .loop .inv) (d .before .before .before .before .before .loop-test .taken) (d .before .before .before .before .item-at .ensures) (d .before .before .item .given .1) (d .with-item .ensures) (sym (c .before .before .ends .ensures) ∙ c .before .if1 .taken) (c .closed .ensures)
 
--- src/read.rt:71:9
 add-n : tie.Need-add-n Inv-loop μ-loop
-add-n c = ?
+add-n c = omega arith
 
--- src/read.rt:62:5
 loop-less : tie.Need-loop-less Inv-loop μ-loop
-loop-less c = ?
+loop-less c = omega arith
 
--- src/read.rt:62:5
 loop-again : tie.Need-loop-again Inv-loop μ-loop
-loop-again c = ?
+loop-again c =
+    let d = c .before .before in
+    items-on _ _ _ (d .before .before .before .before .before .before .loop .inv) (d .before .before .before .before .before .loop-test .taken) (d .before .before .before .before .item-at .ensures) (d .before .before .item .given .1) (d .with-item .ensures) (sym (c .before .ends .ensures) ∙ c .if1 .left)
 
--- src/read.rt:73:5
 no-message-requires-2 : tie.Need-no-message-requires-2 Inv-loop μ-loop
-no-message-requires-2 c κs = ?
+no-message-requires-2 c κs = search needs
 
--- src/read.rt:56:1
 returns-3 : tie.Need-returns-3 Inv-loop μ-loop
-returns-3 c = ?
+returns-3 c = items-full _ _ _ (c .before .before .loop .inv) (c .before .loop-test .left) (c .no-message2 .ensures)
 
 pub items-from-spec : {M : Type 1} → statement M
 items-from-spec =

@@ -45,10 +45,13 @@ loop-again c =
     let p = c .before .before in
     let d = p .before .before .before .before in
     let s = d .before .before .before in
-    let z = d .loop .inv in
-    (omega arith,
-    (z .1 .0,
-    items-more _ _ (itemsOf (s .args .t3)) (z .1 .1 .1) _ (omega arith) (omega arith) (s .pre) (z .1 .1 .0) (batch-at (s .args .t3) (d .loop .i) (omega arith)) (p .put-item .ensures)))
+    let z = d .loop .inv in (
+      omega arith,
+      (
+        z .1 .0,
+        items-more _ _ (itemsOf (s .args .t3)) (z .1 .1 .1) _ (omega arith) (omega arith) (s .pre) (z .1 .1 .0) (batch-at (s .args .t3) (d .loop .i) (omega arith)) (p .put-item .ensures),
+      ),
+    )
 
 same-length : tie.Need-same-length Inv-loop μ-loop
 same-length c = puts-length (c .before .loop .inv .1 .1 .1)
