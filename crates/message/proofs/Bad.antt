@@ -1,9 +1,7 @@
 -- One message has one text, which ends where its newline stands; and what is not of the form.
-use Prim.Native.Nat.{ℕ, zero, suc, _+_, _≤_, _<_}
-use native.Mathlib.Nat.{zero-add}
+use Prim.Native.Nat.{ℕ, zero, suc, _+_}
 use native.Mathlib.Omega.{arith}
 use mathlib.Core.Path.{_≡_, refl, sym, ap, _∙_, subst}
-use mathlib.Core.Bool.{true, false}
 use mathlib.Core.List.{List, [], _∷_, _++_, append-assoc}
 use lib.IntN.{ℤ, pos, negsuc}
 use lib.Signed.{mag}
@@ -12,7 +10,7 @@ use lib.Seq.{getD-append-seam}
 use Rattle.units.specs.declared.Item.{Item}
 use Rattle.lists.specs.Lists.{any}
 use Rattle.decimal.specs.Text.{isDigit, spelt, decimal, plain}
-use Rattle.decimal.specs.Read.{more, digits, unsigned, negative, fieldAt, asNatural, naturalAt, asSigned, signedAt, InRange, Reads}
+use Rattle.decimal.specs.Read.{more, digits, unsigned, negative, fieldAt, asNatural, naturalAt, asSigned, signedAt, InRange}
 use Rattle.decimal.specs.declared.read.Range.{Range}
 use Rattle.decimal.proofs.Reading.{Stops, after, reads-at, reads-one}
 use Rattle.message.specs.Line.{field, itemText, itemsText, lineOf, distinct, InForm}

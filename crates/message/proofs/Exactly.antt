@@ -1,8 +1,7 @@
 -- A line says a stamp and versions exactly if it is their text and they are of document 01's form.
-use Prim.Native.Nat.{ℕ, zero, suc, _+_, _≤_, _<_}
-use native.Mathlib.Numerals.{add-one}
+use Prim.Native.Nat.{ℕ, zero, suc, _+_, _≤_}
 use native.Mathlib.Omega.{arith}
-use mathlib.Core.Path.{_≡_, refl, sym, ap, _∙_, subst}
+use mathlib.Core.Path.{_≡_, refl, sym, ap, _∙_}
 use mathlib.Core.Logic.{_↔_}
 use mathlib.Core.Bool.{Bool, true, false, cond, _&&_}
 use mathlib.Core.List.{List, [], _∷_, _++_, append-assoc, append-nil}
@@ -14,13 +13,11 @@ use lib.Seq.{drop-cons}
 use Rattle.units.specs.declared.Item.{Item}
 use Rattle.lists.specs.Lists.{Every, none, also}
 use Rattle.decimal.specs.Read.{naturals}
-use Rattle.decimal.specs.Write.{put}
 use Rattle.decimal.proofs.Reading.{after, head-of}
-use Rattle.message.specs.Line.{field, itemText, itemsText, lineOf, InRanges, distinct, InForm, itemsOf, batchOf}
+use Rattle.message.specs.Line.{field, itemText, itemsText, lineOf, InRanges, distinct, InForm, itemsOf}
 use Rattle.message.specs.Read.{Reading, whole, bad, onNumber, onPiece, behindTab, itemAt, endsAt, closed, itemsAt, readLine, messageOf}
 use Rattle.message.specs.Write.{Puts}
 use Rattle.message.specs.declared.read.Form.{Form}
-use Rattle.message.specs.declared.read.Message.{Message}
 use Rattle.message.specs.declared.read.Piece.{Piece}
 use Rattle.message.proofs.Batches.{batch-items}
 use Rattle.message.proofs.Fields.{byte-within, Tabbed, number-tabbed, tabbed-text, tabbed-at, Took, number-took}

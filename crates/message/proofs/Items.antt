@@ -1,5 +1,5 @@
 -- A version is read exactly if its text stands there, in its ranges, with no digit behind it.
-use Prim.Native.Nat.{ℕ, _+_, _≤_}
+use Prim.Native.Nat.{ℕ, _+_}
 use native.Mathlib.Omega.{arith}
 use mathlib.Core.Path.{_≡_, refl, sym, ap, _∙_, subst}
 use mathlib.Core.List.{List, [], _∷_, _++_, append-assoc}
@@ -8,7 +8,6 @@ use lib.ListN.{length, drop, length-append}
 use Rattle.units.specs.declared.Item.{Item}
 use Rattle.decimal.specs.Text.{isDigit}
 use Rattle.decimal.specs.Read.{naturals, values}
-use Rattle.decimal.specs.declared.read.Natural.{Natural}
 use Rattle.decimal.proofs.Reading.{Stops, after}
 use Rattle.message.specs.Line.{field, itemText, itemsText, InRanges}
 use Rattle.message.specs.Read.{onNumber, onValue, onPiece, behindTab, valueBehindTab, itemAt}

@@ -1,5 +1,5 @@
 -- Texts put one behind the other.
-use Prim.Native.Nat.{ℕ, suc, _+_, _*_, _≤_, _<_}
+use Prim.Native.Nat.{ℕ, _+_, _*_, _≤_, _<_}
 use native.Mathlib.Nat.{add-zero, zero-add}
 use native.Mathlib.Numerals.{add-one}
 use native.Mathlib.Omega.{arith}
@@ -20,7 +20,6 @@ use Rattle.decimal.proofs.Writing.{put-room, put-full, wrote-room, put-sets, pu
 use Rattle.decimal.proofs.Digits.{decimal-32}
 use Rattle.message.specs.Line.{field, itemText, itemsText, lineOf, noItem}
 use Rattle.message.specs.Write.{Puts, sentAs}
-use Rattle.message.specs.declared.write.Sent.{Sent}
 use Rattle.message.proofs.Lengths.{item-length, item-longest}
 use Rattle.message.specs.declared.write.Sent.the-variants.{Bytes, Refused}
 

@@ -1,13 +1,12 @@
 -- Reading a line, step by step: what the proofs of the reader's code cite.
-use Prim.Native.Nat.{ℕ, zero, suc, _+_, _-_, _≤_, _<_}
+use Prim.Native.Nat.{ℕ, suc, _+_, _-_, _≤_, _<_}
 use native.Mathlib.Numerals.{add-one}
 use native.Mathlib.Omega.{arith}
 use mathlib.Core.Path.{_≡_, refl, sym, ap, _∙_}
-use mathlib.Core.Bool.{Bool, true, false, not, cond, _&&_}
+use mathlib.Core.Bool.{Bool, true, false, cond}
 use mathlib.Core.List.{List, [], _∷_, _++_}
-use borrow.Author.Tests.{eq-eqb}
 use lib.Dec.{eqb}
-use lib.IntN.{ℤ, pos}
+use lib.IntN.{ℤ}
 use lib.ListN.{length, getD, drop, drop-of-length-le, length-append}
 use lib.Seq.{drop-cons}
 use mir.Syntax.{w32}
@@ -17,7 +16,7 @@ use Rattle.units.specs.declared.Batch.{Batch}
 use Rattle.lists.specs.Lists.{any}
 use Rattle.decimal.specs.declared.read.Natural.{Natural}
 use Rattle.decimal.specs.declared.read.Signed.{Signed}
-use Rattle.message.specs.Line.{named, distinct, itemsOf, noItem, batchOf}
+use Rattle.message.specs.Line.{named, distinct, noItem, batchOf}
 use Rattle.message.specs.Read.{Reading, whole, bad, onNumber, onValue, onPiece, behindTab, valueBehindTab, itemAt, endsAt, closed, itemsAt, readLine, message, noMessage, messageOf, closedMessage, pushed}
 use Rattle.message.specs.declared.read.Message.{Message}
 use Rattle.message.specs.declared.read.Piece.{Piece}

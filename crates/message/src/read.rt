@@ -3,7 +3,7 @@ ghost use Prim.Native.Nat.{_+_, _≤_, _<_};
 ghost use mathlib.Core.Path.{_≡_};
 ghost use mathlib.Core.List.{[]};
 ghost use lib.Dec.{eqb};
-ghost use lib.ListN.{getD, set, drop};
+ghost use lib.ListN.{getD, drop};
 ghost use Rattle.lists.specs.Lists.{any};
 ghost use Rattle.message.specs.Line.{named, distinct, itemsOf, batchOf};
 ghost use Rattle.message.specs.Read.{behindTab, valueBehindTab, itemAt, endsAt, itemsAt, readLine, messageOf, noMessage, closedMessage, pushed};
