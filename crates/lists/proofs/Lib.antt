@@ -6,3 +6,4 @@ pub mod Members
 pub mod Count
 pub mod Filter
 pub mod Along
+pub mod Any

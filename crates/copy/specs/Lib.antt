@@ -1,0 +1,3 @@
+-- The definitions that the contracts and the theorems cite: a copy, and what it takes.
+pub mod Copy
+pub mod Arrivals

@@ -1,0 +1,96 @@
+-- `item_at` meets its contract: each answer is one step of `itemAt`.
+use native.Mathlib.Omega.{arith}
+use mir.Facts.{toZ-ofZ}
+use Rattle.message.proofs.Steps.{number-small, value-fits, item-no-key, item-no-ordinal, item-no-value, item-goes}
+use borrow.Author.Needs.{needs}
+use Rattle.message.proofs.read.item_at.Statement.{statement}
+use Rattle.message.proofs.read.item_at.Tie as tie
+
+cast-number-at : tie.Need-cast-number-at
+cast-number-at c = search needs
+
+number-at-requires : tie.Need-number-at-requires
+number-at-requires c κs = search needs
+
+enum-known-key : tie.Need-enum-known-key
+enum-known-key c = search needs
+
+enum-told : tie.Need-enum-told
+enum-told c = search needs
+
+returns : tie.Need-returns
+returns c = item-no-key _ _ (c .before .before .number-at .ensures) (c .enum-told .given .1)
+
+number-at-requires-2 : tie.Need-number-at-requires-2
+number-at-requires-2 c κs = search needs
+
+enum-known-ordinal : tie.Need-enum-known-ordinal
+enum-known-ordinal c = search needs
+
+enum-told-2 : tie.Need-enum-told-2
+enum-told-2 c = search needs
+
+returns-2 : tie.Need-returns-2
+returns-2 c =
+    let n = c .before .before in
+    let k = n .before .before in
+    item-no-ordinal _ _ (k .before .before .number-at .ensures) (k .key .given .1) (n .number-at2 .ensures) (c .enum-told2 .given .1)
+
+value-at-requires : tie.Need-value-at-requires
+value-at-requires c κs = search needs
+
+enum-known-value : tie.Need-enum-known-value
+enum-known-value c = search needs
+
+enum-told-3 : tie.Need-enum-told-3
+enum-told-3 c = search needs
+
+returns-3 : tie.Need-returns-3
+returns-3 c =
+    let v = c .before .before in
+    let o = v .before .before in
+    let n = o .before .before in
+    let k = n .before .before in
+    item-no-value _ _ (k .before .before .number-at .ensures) (k .key .given .1) (n .number-at2 .ensures) (o .ordinal .given .1) (v .value-at .ensures) (c .enum-told3 .given .1)
+
+cast-t13 : tie.Need-cast-t13
+cast-t13 c =
+    let k = c .before .before .before .before .before .before .before .before .before in
+    let h = number-small _ _ 0 63 (k .before .before .number-at .ensures) (k .key .given .1) in
+    omega arith
+
+cast-t14 : tie.Need-cast-t14
+cast-t14 c =
+    let o = c .before .before .before .before .before in
+    let h = number-small _ _ 1 4096 (o .before .before .number-at2 .ensures) (o .ordinal .given .1) in
+    omega arith
+
+returns-4 : tie.Need-returns-4
+returns-4 c =
+    let v = c .before .before .before in
+    let o = v .before .before in
+    let n = o .before .before in
+    let k = n .before .before in
+    rw (toZ-ofZ (value-fits _ _ (v .value-at .ensures) (c .before .value .given .1)))
+    (item-goes _ _ (k .before .before .number-at .ensures) (k .key .given .1) (n .number-at2 .ensures) (o .ordinal .given .1) (v .value-at .ensures) (c .before .value .given .1))
+
+pub item-at-spec : {M : Type 1} → statement M
+item-at-spec =
+    tie.close
+    (tie.spec
+    cast-number-at
+    number-at-requires
+    enum-known-key
+    enum-told
+    returns
+    number-at-requires-2
+    enum-known-ordinal
+    enum-told-2
+    returns-2
+    value-at-requires
+    enum-known-value
+    enum-told-3
+    returns-3
+    cast-t13
+    cast-t14
+    returns-4)

@@ -1,0 +1,89 @@
+-- `items_from` meets its contract. The invariant: the versions seen make the batch, and what is left of the line gives the whole answer.
+use Prim.Native.Nat.{_-_}
+use native.Mathlib.Omega.{arith}
+use mathlib.Core.Path.{sym, _∙_}
+use borrow.Author.Needs.{needs}
+use Rattle.message.proofs.Steps.{SoFar, nothing-yet, items-full, items-none, items-end, items-on}
+use Rattle.message.proofs.read.items_from.Statement.{statement}
+use Rattle.message.proofs.read.items_from.Tie as tie
+
+abbrev Inv-loop : tie.InvT-loop
+Inv-loop line stamp from batch₀ at₀ n₀ batch at n = SoFar (stamp .0) line from batch at n
+
+abbrev μ-loop : tie.MeasureT-loop
+μ-loop line stamp from batch₀ at₀ n₀ batch at n = 16 - n
+
+no-items-requires : tie.Need-no-items-requires Inv-loop μ-loop
+no-items-requires c κs = search needs
+
+loop-holds : tie.Need-loop-holds Inv-loop μ-loop
+loop-holds c = nothing-yet _ _ _ (c .no-items .ensures)
+
+item-at-requires : tie.Need-item-at-requires Inv-loop μ-loop
+item-at-requires c κs = search needs
+
+enum-known-item : tie.Need-enum-known-item Inv-loop μ-loop
+enum-known-item c = search needs
+
+enum-told : tie.Need-enum-told Inv-loop μ-loop
+enum-told c = search needs
+
+no-message-requires : tie.Need-no-message-requires Inv-loop μ-loop
+no-message-requires c κs = search needs
+
+returns : tie.Need-returns Inv-loop μ-loop
+returns c = items-none _ _ _ (c .before .before .before .before .before .loop .inv) (c .before .before .before .before .loop-test .taken) (c .before .before .before .item-at .ensures) (c .before .enum-told .given .1) (c .no-message .ensures)
+
+with-item-requires : tie.Need-with-item-requires Inv-loop μ-loop
+with-item-requires c κs = omega arith
+
+ends-requires : tie.Need-ends-requires Inv-loop μ-loop
+ends-requires c κs = search needs
+
+closed-requires : tie.Need-closed-requires Inv-loop μ-loop
+closed-requires c κs = search needs
+
+returns-2 : tie.Need-returns-2 Inv-loop μ-loop
+returns-2 c =
+    let d = c .before .before .before in
+    items-end _ _ _ (d .before .before .before .before .before .before .loop .inv) (d .before .before .before .before .before .loop-test .taken) (d .before .before .before .before .item-at .ensures) (d .before .before .item .given .1) (d .with-item .ensures) (sym (c .before .before .ends .ensures) ∙ c .before .if1 .taken) (c .closed .ensures)
+
+add-n : tie.Need-add-n Inv-loop μ-loop
+add-n c = omega arith
+
+loop-less : tie.Need-loop-less Inv-loop μ-loop
+loop-less c = omega arith
+
+loop-again : tie.Need-loop-again Inv-loop μ-loop
+loop-again c =
+    let d = c .before .before in
+    items-on _ _ _ (d .before .before .before .before .before .before .loop .inv) (d .before .before .before .before .before .loop-test .taken) (d .before .before .before .before .item-at .ensures) (d .before .before .item .given .1) (d .with-item .ensures) (sym (c .before .ends .ensures) ∙ c .if1 .left)
+
+no-message-requires-2 : tie.Need-no-message-requires-2 Inv-loop μ-loop
+no-message-requires-2 c κs = search needs
+
+returns-3 : tie.Need-returns-3 Inv-loop μ-loop
+returns-3 c = items-full _ _ _ (c .before .before .loop .inv) (c .before .loop-test .left) (c .no-message2 .ensures)
+
+pub items-from-spec : {M : Type 1} → statement M
+items-from-spec =
+    tie.close
+    (tie.spec
+    Inv-loop
+    μ-loop
+    no-items-requires
+    loop-holds
+    item-at-requires
+    enum-known-item
+    enum-told
+    no-message-requires
+    returns
+    with-item-requires
+    ends-requires
+    closed-requires
+    returns-2
+    add-n
+    loop-less
+    loop-again
+    no-message-requires-2
+    returns-3)

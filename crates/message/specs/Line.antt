@@ -1,0 +1,68 @@
+-- A commit's message as text. Document 01: "a line: `p`, the commit's stamp, then key, ordinal and value for each version in
+-- log order, fields parted by one tab, ended by one newline".
+use Prim.Native.Nat.{ℕ, _≤_}
+use mathlib.Core.Path.{_≡_}
+use mathlib.Core.Bool.{Bool, true, not, _&&_}
+use mathlib.Core.List.{List, [], _∷_, _++_}
+use lib.Dec.{eqb}
+use lib.IntN.{ℤ, pos}
+use lib.ListN.{length, take, replicate}
+use lib.Seq.{sets}
+use Rattle.units.specs.declared.Item.{Item}
+use Rattle.units.specs.declared.Batch.{Batch}
+use Rattle.lists.specs.Lists.{any, Every}
+use Rattle.decimal.specs.Text.{plain}
+use Rattle.decimal.specs.Read.{InRange, values}
+
+-- one tab (9), and a number in its plain form
+abbrev pub field : ℤ → List ℕ
+field z = 9 ∷ plain z
+
+unfoldable pub itemText : Item → List ℕ
+itemText i = field (pos (i .key)) ++ field (pos (i .ordinal .0)) ++ field (i .value)
+
+unfoldable pub itemsText : List Item → List ℕ
+itemsText [] = []
+itemsText (i ∷ is) = itemText i ++ itemsText is
+
+-- 112 is `p`, 10 the newline
+unfoldable pub lineOf : ℕ → List Item → List ℕ
+lineOf stamp items = 112 ∷ (field (pos stamp) ++ itemsText items ++ (10 ∷ []))
+
+-- ---- the form
+
+-- "Keys are 0 to 63. A value is any signed 32-bit number"; "Ordinals here are 1 to 4,096"
+pub record InRanges (i : Item) : Type 0 where
+  pub key : i .key ≤ 63
+  pub first : 1 ≤ i .ordinal .0
+  pub last : i .ordinal .0 ≤ 4096
+  pub value : InRange values (i .value)
+
+abbrev pub named : ℕ → Item → Bool
+named k i = eqb (i .key) k
+
+-- "no key twice"
+unfoldable pub distinct : List Item → Bool
+distinct [] = true
+distinct (i ∷ is) = not (any (named (i .key)) is) && distinct is
+
+-- the stamps of document 01 that a commit can have, and "1 to 16 versions; no key twice"
+pub record InForm (stamp : ℕ) (items : List Item) : Type 0 where
+  pub early : 1 ≤ stamp
+  pub late : stamp ≤ 4294967295
+  pub some : 1 ≤ length items
+  pub few : length items ≤ 16
+  pub ranges : Every InRanges items
+  pub apart : distinct items ≡ true
+
+-- ---- the versions of a batch
+
+abbrev pub itemsOf : Batch → List Item
+itemsOf b = take (b .count) (b .items)
+
+abbrev pub noItem : Item
+noItem = record { key = 0; ordinal = record { 0 = 0 }; value = pos 0 }
+
+-- the batch of at most 16 versions; the places behind them are empty
+unfoldable pub batchOf : List Item → Batch
+batchOf items = record { items = sets (replicate 16 noItem) 0 items; count = length items }

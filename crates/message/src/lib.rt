@@ -1,0 +1,34 @@
+// A commit's message: the line that carries its versions to the copies, written and read.
+ghost use Prim.Native.Nat.{_≤_};
+ghost use mathlib.Core.Path.{_≡_};
+ghost use lib.ListN.{length};
+ghost use Rattle.message.specs.Line.{itemsOf};
+use units::Batch;
+use units::limits;
+
+mod read;
+mod write;
+
+pub use read::Form;
+pub use read::Message;
+pub use read::read_message;
+pub use write::Sent;
+pub use write::write_message;
+
+const LETTER: u8 = b'p';
+
+const TAB: u8 = b'\t';
+
+const NEWLINE: u8 = b'\n';
+
+// How many versions a batch has: a count past the limit counts as the limit.
+pub fn size(batch: Batch) -> usize
+    ensures { λ r. ⌜ (r ≡ length (itemsOf batch)) × ((r ≤ batch .count) × (r ≤ 16)) ⌝ }
+{
+    let n = batch.count;
+    if n < limits::WRITES {
+        n
+    } else {
+        limits::WRITES
+    }
+}

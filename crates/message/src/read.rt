@@ -1,0 +1,210 @@
+// Reading a message line: whole, or not of the form.
+ghost use Prim.Native.Nat.{_+_, _≤_, _<_};
+ghost use mathlib.Core.Path.{_≡_};
+ghost use mathlib.Core.List.{[]};
+ghost use lib.Dec.{eqb};
+ghost use lib.ListN.{getD, drop};
+ghost use Rattle.lists.specs.Lists.{any};
+ghost use Rattle.message.specs.Line.{named, distinct, itemsOf, batchOf};
+ghost use Rattle.message.specs.Read.{behindTab, valueBehindTab, itemAt, endsAt, itemsAt, readLine, messageOf, noMessage, closedMessage, pushed};
+use crate::LETTER;
+use crate::NEWLINE;
+use crate::TAB;
+use crate::size;
+use decimal::Natural;
+use decimal::Signed;
+use decimal::natural_at;
+use decimal::signed_at;
+use units::Batch;
+use units::Item;
+use units::Ordinal;
+use units::Stamp;
+use units::limits;
+
+pub enum Form {
+    Whole,
+    Bad,
+}
+
+// What a line says; where it is not of the form, stamp 0 and no versions.
+pub struct Message {
+    pub form: Form,
+    pub stamp: Stamp,
+    pub batch: Batch,
+}
+
+// A version of the line, and the place just behind it.
+enum Piece {
+    At(Item, usize),
+    Bad,
+}
+
+pub fn read_message(line: &[u8]) -> Message
+    ensures { λ r. ⌜ r ≡ messageOf (readLine (now (line .entry))) ⌝ }
+{
+    if !byte_is(line, 0, LETTER) {
+        return no_message();
+    }
+    let Natural::Number(stamp, e) = number_at(line, 1, 1, limits::LAST_STAMP as u64) else {
+        return no_message();
+    };
+    items_from(line, Stamp(stamp as u32), e)
+}
+
+// The versions from a place on, to the end of the line; the limit is the message's, and a key stands once.
+fn items_from(line: &[u8], stamp: Stamp, from: usize) -> Message
+    ensures { λ r. ⌜ r ≡ messageOf (itemsAt (stamp .0) 16 (now (line .entry)) from []) ⌝ }
+{
+    let mut batch = no_items();
+    let mut at = from;
+    let mut n = 0;
+    while n < limits::WRITES {
+        let Piece::At(item, e) = item_at(line, at) else {
+            return no_message();
+        };
+        batch = with_item(batch, n, item);
+        if ends(line, e) {
+            return closed(stamp, batch);
+        }
+        at = e;
+        n += 1;
+    }
+    no_message()
+}
+
+// Key, ordinal and value, each behind a tab.
+fn item_at(line: &[u8], at: usize) -> Piece
+    ensures { λ r. ⌜ r ≡ itemAt (now (line .entry)) at ⌝ }
+{
+    let Natural::Number(key, a) = number_at(line, at, 0, limits::LAST_KEY as u64) else {
+        return Piece::Bad;
+    };
+    let Natural::Number(ordinal, b) = number_at(line, a, 1, limits::LOG as u64) else {
+        return Piece::Bad;
+    };
+    let Signed::Number(value, e) = value_at(line, b) else {
+        return Piece::Bad;
+    };
+    Piece::At(
+        Item {
+            key: key as u8,
+            ordinal: Ordinal(ordinal as u32),
+            value,
+        },
+        e,
+    )
+}
+
+fn number_at(line: &[u8], at: usize, least: u64, most: u64) -> Natural
+    ensures { λ r. ⌜ r ≡ behindTab (now (line .entry)) at least most ⌝ }
+{
+    if byte_is(line, at, TAB) {
+        return natural_at(line, at + 1, least, most);
+    }
+    Natural::Bad
+}
+
+fn value_at(line: &[u8], at: usize) -> Signed
+    ensures { λ r. ⌜ r ≡ valueBehindTab (now (line .entry)) at ⌝ }
+{
+    if byte_is(line, at, TAB) {
+        return signed_at(line, at + 1);
+    }
+    Signed::Bad
+}
+
+// Whether the newline stands at a place, and nothing behind it.
+fn ends(line: &[u8], at: usize) -> bool
+    ensures { λ r. ⌜ r ≡ endsAt (now (line .entry)) at ⌝ }
+{
+    if byte_is(line, at, NEWLINE) {
+        return at + 1 == line.len();
+    }
+    false
+}
+
+fn byte_is(line: &[u8], at: usize, b: u8) -> bool
+    requires { ⌜ 1 ≤ b ⌝ }
+    ensures { λ r. ⌜ r ≡ eqb (getD (now (line .entry)) at 0) b ⌝ }
+{
+    if at < line.len() {
+        return line[at] == b;
+    }
+    false
+}
+
+// "No key twice."
+fn closed(stamp: Stamp, batch: Batch) -> Message
+    ensures { λ r. ⌜ r ≡ closedMessage (stamp .0) batch ⌝ }
+{
+    if all_distinct(batch) {
+        return Message {
+            form: Form::Whole,
+            stamp,
+            batch,
+        };
+    }
+    no_message()
+}
+
+fn all_distinct(batch: Batch) -> bool
+    ensures { λ r. ⌜ r ≡ distinct (itemsOf batch) ⌝ }
+{
+    let end = size(batch);
+    let mut i = 0;
+    while i < end {
+        if named_from(batch, i + 1, batch.items[i].key) {
+            return false;
+        }
+        i += 1;
+    }
+    true
+}
+
+// Whether one of the versions from a place on is of a key.
+fn named_from(batch: Batch, from: usize, key: u8) -> bool
+    ensures { λ r. ⌜ r ≡ any (named key) (drop from (itemsOf batch)) ⌝ }
+{
+    let end = size(batch);
+    let mut i = from;
+    while i < end {
+        if batch.items[i].key == key {
+            return true;
+        }
+        i += 1;
+    }
+    false
+}
+
+fn with_item(mut batch: Batch, n: usize, item: Item) -> Batch
+    requires { ⌜ n < 16 ⌝ }
+    ensures { λ r. ⌜ r ≡ pushed batch n item ⌝ }
+{
+    batch.items[n] = item;
+    batch.count = n + 1;
+    batch
+}
+
+fn no_message() -> Message
+    ensures { λ r. ⌜ r ≡ noMessage ⌝ }
+{
+    Message {
+        form: Form::Bad,
+        stamp: Stamp(0),
+        batch: no_items(),
+    }
+}
+
+fn no_items() -> Batch
+    ensures { λ r. ⌜ r ≡ batchOf [] ⌝ }
+{
+    let item = Item {
+        key: 0,
+        ordinal: Ordinal(0),
+        value: 0,
+    };
+    Batch {
+        items: [item; limits::WRITES],
+        count: 0,
+    }
+}
