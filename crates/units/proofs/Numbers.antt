@@ -1,0 +1,61 @@
+-- A refusal's number names it: no two refusals share one.
+use Prim.Native.Nat.{ℕ, _-_, _<_}
+use native.Mathlib.Omega.{arith}
+use mathlib.Core.List.{List, [], _∷_}
+use mathlib.Core.Path.{_≡_, refl, sym, ap, _∙_}
+use lib.ListN.{getD}
+use Rattle.units.specs.Refusal.{numberOf}
+use Rattle.units.specs.declared.refusal.Refusal.{Refusal}
+use Rattle.units.specs.declared.refusal.Refusal.the-variants.{NoTransaction, NoKey, DeskFull, TransactionFull, ClockSpent, LogFull, NoVersion, KeyWritten, NoSuchBoundOrPlace, NotAMessage, OrdinalAhead, HistoryTooLong, NotARecord, TooManyLines, WrongTransaction, TooManyTransactions, NoRoom, NothingWritten}
+
+-- document 01's table, from 1
+abbrev pub refusals : List Refusal
+refusals =
+    NoTransaction ∷ NoKey ∷ DeskFull ∷ TransactionFull ∷ ClockSpent ∷ LogFull ∷ NoVersion ∷ KeyWritten ∷ NoSuchBoundOrPlace ∷ NotAMessage ∷ OrdinalAhead ∷ HistoryTooLong ∷ NotARecord ∷ TooManyLines ∷ WrongTransaction ∷ TooManyTransactions ∷ NoRoom ∷ NothingWritten ∷ []
+
+abbrev pub refusalOf : ℕ → Refusal
+refusalOf n = getD refusals (n - 1) NoTransaction
+
+pub number-back : (f : Refusal) → refusalOf (numberOf f) ≡ f
+number-back NoTransaction = refl
+number-back NoKey = refl
+number-back DeskFull = refl
+number-back TransactionFull = refl
+number-back ClockSpent = refl
+number-back LogFull = refl
+number-back NoVersion = refl
+number-back KeyWritten = refl
+number-back NoSuchBoundOrPlace = refl
+number-back NotAMessage = refl
+number-back OrdinalAhead = refl
+number-back HistoryTooLong = refl
+number-back NotARecord = refl
+number-back TooManyLines = refl
+number-back WrongTransaction = refl
+number-back TooManyTransactions = refl
+number-back NoRoom = refl
+number-back NothingWritten = refl
+
+pub number-inj : (f g : Refusal) → numberOf f ≡ numberOf g → f ≡ g
+number-inj f g e = sym (number-back f) ∙ ap refusalOf e ∙ number-back g
+
+-- and 0 is no refusal
+pub number-pos : (f : Refusal) → 0 < numberOf f
+number-pos NoTransaction = omega arith
+number-pos NoKey = omega arith
+number-pos DeskFull = omega arith
+number-pos TransactionFull = omega arith
+number-pos ClockSpent = omega arith
+number-pos LogFull = omega arith
+number-pos NoVersion = omega arith
+number-pos KeyWritten = omega arith
+number-pos NoSuchBoundOrPlace = omega arith
+number-pos NotAMessage = omega arith
+number-pos OrdinalAhead = omega arith
+number-pos HistoryTooLong = omega arith
+number-pos NotARecord = omega arith
+number-pos TooManyLines = omega arith
+number-pos WrongTransaction = omega arith
+number-pos TooManyTransactions = omega arith
+number-pos NoRoom = omega arith
+number-pos NothingWritten = omega arith
