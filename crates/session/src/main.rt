@@ -1,6 +1,7 @@
 // Plays a session: steps from standard input, one a line, and one reply a line on standard output. It holds one master, opened at clock
 // 0, and one fresh copy. docs/SESSION.md has the language. No contract can say what a program reads or writes: the calls below carry
 // the promises, and this file only reads words and writes answers.
+ghost use Prim.Native.Nat.{_≤_};
 use comparison::Compared;
 use copy::Copy;
 use copy::TakeAnswer;
@@ -53,7 +54,7 @@ enum Step {
 }
 
 // The master, the copy, how much of the output is written, and how much of the next line is read.
-struct Play {
+struct Table {
     master: Master,
     copy: Copy,
     written: usize,
@@ -268,7 +269,7 @@ fn tune_of(line: &[u8]) -> Step {
 
 // ---- writing replies
 
-fn put_word(out: &mut [u8; OUTPUT], at: usize, word: &[u8]) -> usize {
+fn put_word(out: &mut [u8], at: usize, word: &[u8]) -> usize {
     let mut to = at;
     let mut i = 0;
     while i < word.len() {
@@ -278,43 +279,43 @@ fn put_word(out: &mut [u8; OUTPUT], at: usize, word: &[u8]) -> usize {
     to
 }
 
-fn put_one(out: &mut [u8; OUTPUT], at: usize, b: u8) -> usize {
+fn put_one(out: &mut [u8], at: usize, b: u8) -> usize {
     let Put::Next(e) = decimal::put_byte(out, at, b) else {
         return at;
     };
     e
 }
 
-fn put_number(out: &mut [u8; OUTPUT], at: usize, n: u64) -> usize {
+fn put_number(out: &mut [u8], at: usize, n: u64) -> usize {
     let Put::Next(e) = decimal::put_natural(out, at, n) else {
         return at;
     };
     e
 }
 
-fn put_value(out: &mut [u8; OUTPUT], at: usize, n: i32) -> usize {
+fn put_value(out: &mut [u8], at: usize, n: i32) -> usize {
     let Put::Next(e) = decimal::put_signed(out, at, n) else {
         return at;
     };
     e
 }
 
-fn end_line(out: &mut [u8; OUTPUT], at: usize) -> usize {
+fn end_line(out: &mut [u8], at: usize) -> usize {
     put_one(out, at, b'\n')
 }
 
 // A word, a space and a number.
-fn say_number(out: &mut [u8; OUTPUT], at: usize, word: &[u8], n: u64) -> usize {
+fn say_number(out: &mut [u8], at: usize, word: &[u8], n: u64) -> usize {
     let a = put_word(out, at, word);
     let b = put_number(out, a, n);
     end_line(out, b)
 }
 
-fn say_refused(out: &mut [u8; OUTPUT], at: usize, refusal: Refusal) -> usize {
+fn say_refused(out: &mut [u8], at: usize, refusal: Refusal) -> usize {
     say_number(out, at, b"refused ", refusal.number() as u64)
 }
 
-fn say_version(out: &mut [u8; OUTPUT], at: usize, word: &[u8], v: Version) -> usize {
+fn say_version(out: &mut [u8], at: usize, word: &[u8], v: Version) -> usize {
     let a = put_word(out, at, word);
     let ordinal = v.ordinal;
     let b = put_number(out, a, ordinal.0 as u64);
@@ -327,7 +328,7 @@ fn say_version(out: &mut [u8; OUTPUT], at: usize, word: &[u8], v: Version) -> us
     end_line(out, f)
 }
 
-fn say_looked(out: &mut [u8; OUTPUT], at: usize, word: &[u8], answer: ReadAnswer) -> usize {
+fn say_looked(out: &mut [u8], at: usize, word: &[u8], answer: ReadAnswer) -> usize {
     match answer {
         ReadAnswer::Answered(v) => say_version(out, at, word, v),
         ReadAnswer::Own(v) => {
@@ -339,18 +340,18 @@ fn say_looked(out: &mut [u8; OUTPUT], at: usize, word: &[u8], answer: ReadAnswer
     }
 }
 
-fn say_done(out: &mut [u8; OUTPUT], at: usize, word: &[u8], answer: DoneAnswer) -> usize {
+fn say_done(out: &mut [u8], at: usize, word: &[u8], answer: DoneAnswer) -> usize {
     match answer {
         DoneAnswer::Done => put_word(out, at, word),
         DoneAnswer::Refused(f) => say_refused(out, at, f),
     }
 }
 
-fn say_place(out: &mut [u8; OUTPUT], at: usize, word: &[u8], i: usize) -> usize {
+fn say_place(out: &mut [u8], at: usize, word: &[u8], i: usize) -> usize {
     say_number(out, at, word, i as u64)
 }
 
-fn say_rule(out: &mut [u8; OUTPUT], at: usize, rule: Rule) -> usize {
+fn say_rule(out: &mut [u8], at: usize, rule: Rule) -> usize {
     match rule {
         Rule::BV(i) => say_place(out, at, b"aborted BV ", i),
         Rule::FV(i) => say_place(out, at, b"aborted FV ", i),
@@ -366,7 +367,7 @@ fn say_rule(out: &mut [u8; OUTPUT], at: usize, rule: Rule) -> usize {
 }
 
 // The distance, with its sign.
-fn say_distance(out: &mut [u8; OUTPUT], at: usize, answer: DistanceAnswer) -> usize {
+fn say_distance(out: &mut [u8], at: usize, answer: DistanceAnswer) -> usize {
     match answer {
         DistanceAnswer::Distance(d) => {
             let a = put_word(out, at, b"distance ");
@@ -388,7 +389,7 @@ fn narrow(d: i64) -> i32 {
     d as i32
 }
 
-fn say_commit(out: &mut [u8; OUTPUT], at: usize, answer: CommitAnswer) -> usize {
+fn say_commit(out: &mut [u8], at: usize, answer: CommitAnswer) -> usize {
     match answer {
         CommitAnswer::Committed(s) => say_number(out, at, b"commit ", s.0 as u64),
         CommitAnswer::Aborted(rule) => say_rule(out, at, rule),
@@ -396,14 +397,14 @@ fn say_commit(out: &mut [u8; OUTPUT], at: usize, answer: CommitAnswer) -> usize 
     }
 }
 
-fn say_newest(out: &mut [u8; OUTPUT], at: usize, answer: NewestAnswer) -> usize {
+fn say_newest(out: &mut [u8], at: usize, answer: NewestAnswer) -> usize {
     match answer {
         NewestAnswer::MadeBy(s) => say_number(out, at, b"newest ", s.0 as u64),
         NewestAnswer::Refused(f) => say_refused(out, at, f),
     }
 }
 
-fn say_compared(out: &mut [u8; OUTPUT], at: usize, answer: Compared) -> usize {
+fn say_compared(out: &mut [u8], at: usize, answer: Compared) -> usize {
     match answer {
         Compared::Behind(word, count, lowest) => {
             let a = put_word(out, at, b"compare ");
@@ -418,21 +419,21 @@ fn say_compared(out: &mut [u8; OUTPUT], at: usize, answer: Compared) -> usize {
     }
 }
 
-fn say_start(out: &mut [u8; OUTPUT], at: usize, answer: StartAnswer) -> usize {
+fn say_start(out: &mut [u8], at: usize, answer: StartAnswer) -> usize {
     match answer {
         StartAnswer::Started(s) => say_number(out, at, b"start ", s.0 as u64),
         StartAnswer::Refused(f) => say_refused(out, at, f),
     }
 }
 
-fn say_held(out: &mut [u8; OUTPUT], at: usize, answer: copy::ReadAnswer) -> usize {
+fn say_held(out: &mut [u8], at: usize, answer: copy::ReadAnswer) -> usize {
     match answer {
         copy::ReadAnswer::Answered(v) => say_version(out, at, b"look ", v),
         copy::ReadAnswer::Refused(f) => say_refused(out, at, f),
     }
 }
 
-fn say_taken(out: &mut [u8; OUTPUT], at: usize, answer: TakeAnswer) -> usize {
+fn say_taken(out: &mut [u8], at: usize, answer: TakeAnswer) -> usize {
     match answer {
         TakeAnswer::Taken => put_word(out, at, b"take\n"),
         TakeAnswer::Refused(f) => say_refused(out, at, f),
@@ -445,8 +446,8 @@ fn say_message(
     ordinals: &[u32; limits::LOG],
     stamps: &[u32; limits::LOG],
     values: &[i32; limits::LOG],
-    out: &mut [u8; OUTPUT],
-    p: Play,
+    out: &mut [u8],
+    p: Table,
     stamp: u32,
     room: u32,
 ) -> usize {
@@ -460,7 +461,7 @@ fn say_message(
         values,
         m,
         Stamp(stamp),
-        &mut text[..n],
+        front_mut(&mut text, n),
     ) {
         Sent::Bytes(e) => put_text(out, p.written, &text, e),
         Sent::Refused(f) => say_refused(out, p.written, f),
@@ -468,36 +469,50 @@ fn say_message(
 }
 
 // No message is longer than the reply's room, so more room changes nothing.
-fn lent(room: u32) -> usize {
+fn lent(room: u32) -> usize
+    ensures { λ r. ⌜ r ≤ 512 ⌝ }
+{
     if room < 512 {
         return room as usize;
     }
     REPLY
 }
 
-fn put_text(out: &mut [u8; OUTPUT], at: usize, text: &[u8; REPLY], n: usize) -> usize {
-    if n <= REPLY {
-        return put_word(out, at, &text[..n]);
+fn put_text(out: &mut [u8], at: usize, text: &[u8], n: usize) -> usize {
+    put_word(out, at, front(text, n))
+}
+
+// The first n bytes, or all where there are fewer.
+fn front(s: &[u8], n: usize) -> &[u8] {
+    if n <= s.len() {
+        return &s[..n];
     }
-    at
+    s
+}
+
+fn front_mut(s: &mut [u8], n: usize) -> &mut [u8] {
+    if n <= s.len() {
+        return &mut s[..n];
+    }
+    s
 }
 
 // ---- playing a step
 
-fn said(p: Play, at: usize) -> Play {
+fn said(p: Table, at: usize) -> Table {
     let mut q = p;
     q.written = at;
     q
 }
 
-fn moved(p: Play, master: Master, at: usize) -> Play {
+fn moved(p: Table, master: Master, at: usize) -> Table {
     let mut q = p;
     q.master = master;
     q.written = at;
     q
 }
 
-fn with_copy(p: Play, copy: Copy, at: usize) -> Play {
+fn with_copy(p: Table, copy: Copy, at: usize) -> Table {
     let mut q = p;
     q.copy = copy;
     q.written = at;
@@ -510,9 +525,9 @@ fn play(
     ordinals: &mut [u32; limits::LOG],
     stamps: &mut [u32; limits::LOG],
     values: &mut [i32; limits::LOG],
-    out: &mut [u8; OUTPUT],
-    p: Play,
-) -> Play {
+    out: &mut [u8],
+    p: Table,
+) -> Table {
     let step = step_of(line);
     let m = p.master;
     match step {
@@ -562,7 +577,7 @@ fn play(
 }
 
 // The steps that look at no version of the master.
-fn play_other(step: Step, line: &[u8], out: &mut [u8; OUTPUT], p: Play) -> Play {
+fn play_other(step: Step, line: &[u8], out: &mut [u8], p: Table) -> Table {
     let m = p.master;
     let c = p.copy;
     match step {
@@ -633,26 +648,23 @@ fn take_rest(line: &[u8], c: Copy) -> copy::Taken {
 // One byte more of the line; a newline plays it. A line that is too long is no step.
 fn feed(
     b: u8,
-    line: &mut [u8; LINE],
+    line: &mut [u8],
     keys: &mut [u8; limits::LOG],
     ordinals: &mut [u32; limits::LOG],
     stamps: &mut [u32; limits::LOG],
     values: &mut [i32; limits::LOG],
-    out: &mut [u8; OUTPUT],
-    p: Play,
-) -> Play {
+    out: &mut [u8],
+    p: Table,
+) -> Table {
     let n = p.read;
-    if n < LINE {
-        line[n] = b;
-    }
+    keep(line, n, b);
     if b != b'\n' {
         return counted(p, longer(n));
     }
     let q = roomy(out, p);
     if n < LINE {
-        let end = n + 1;
         return counted(
-            play(&line[..end], keys, ordinals, stamps, values, out, q),
+            play(front(line, n + 1), keys, ordinals, stamps, values, out, q),
             0,
         );
     }
@@ -660,7 +672,13 @@ fn feed(
     counted(said(q, at), 0)
 }
 
-fn counted(p: Play, read: usize) -> Play {
+fn keep(line: &mut [u8], n: usize, b: u8) {
+    if n < line.len() {
+        line[n] = b;
+    }
+}
+
+fn counted(p: Table, read: usize) -> Table {
     let mut q = p;
     q.read = read;
     q
@@ -675,31 +693,28 @@ fn longer(n: usize) -> usize {
 }
 
 // Room for one reply more: what is written goes out where there is too little.
-fn roomy(out: &mut [u8; OUTPUT], p: Play) -> Play {
+fn roomy(out: &mut [u8], p: Table) -> Table {
     if p.written < OUTPUT - REPLY {
         return p;
     }
     flush(out, p)
 }
 
-fn flush(out: &mut [u8; OUTPUT], p: Play) -> Play {
-    let n = p.written;
-    if n <= OUTPUT {
-        io::write_all(STDOUT_FILENO, &out[..n]);
-    }
+fn flush(out: &mut [u8], p: Table) -> Table {
+    io::write_all(STDOUT_FILENO, front(out, p.written));
     said(p, 0)
 }
 
 fn feed_all(
     input: &[u8],
-    line: &mut [u8; LINE],
+    line: &mut [u8],
     keys: &mut [u8; limits::LOG],
     ordinals: &mut [u32; limits::LOG],
     stamps: &mut [u32; limits::LOG],
     values: &mut [i32; limits::LOG],
-    out: &mut [u8; OUTPUT],
-    p: Play,
-) -> Play {
+    out: &mut [u8],
+    p: Table,
+) -> Table {
     let mut q = p;
     let mut i = 0;
     while i < input.len() {
@@ -712,17 +727,17 @@ fn feed_all(
 // One read of the input, played; `more` says whether there was any.
 struct Turn {
     more: bool,
-    play: Play,
+    play: Table,
 }
 
-fn turn(
-    line: &mut [u8; LINE],
+fn one_turn(
+    line: &mut [u8],
     keys: &mut [u8; limits::LOG],
     ordinals: &mut [u32; limits::LOG],
     stamps: &mut [u32; limits::LOG],
     values: &mut [i32; limits::LOG],
-    out: &mut [u8; OUTPUT],
-    p: Play,
+    out: &mut [u8],
+    p: Table,
 ) -> Turn {
     let mut input = [0u8; INPUT];
     let got = libc::read(STDIN_FILENO, &mut input);
@@ -748,7 +763,7 @@ fn main() {
     let mut values = [0i32; limits::LOG];
     let mut line = [0u8; LINE];
     let mut out = [0u8; OUTPUT];
-    let mut p = Play {
+    let mut p = Table {
         master: Master::open(Stamp(0)),
         copy: Copy::fresh(),
         written: 0,
@@ -761,7 +776,7 @@ fn main() {
             more = false;
         } else {
             turns -= 1;
-            let t = turn(
+            let t = one_turn(
                 &mut line,
                 &mut keys,
                 &mut ordinals,
