@@ -1,0 +1,2 @@
+-- The theorems of demand 3.
+pub mod Values
