@@ -1,2 +1,4 @@
 -- The theorems of demand 3.
 pub mod Values
+pub mod Messages
+pub mod Held

@@ -8,8 +8,9 @@ use lib.ListN.{take}
 use Rattle.lists.specs.Lists.{Every}
 use Rattle.lists.specs.Members.{In}
 use Rattle.model.specs.Log.{Entry, madeAt}
-use Rattle.model.specs.State.{opened}
-use Rattle.model.specs.Call.{Call}
+use Rattle.model.specs.State.{State, opened}
+use Rattle.model.specs.Call.{Call, Message, made}
+use Rattle.model.specs.Step.{step}
 use Rattle.model.specs.Session.{reached}
 use Rattle.versions.specs.Batch.{itemOf}
 use Rattle.message.specs.Line.{lineOf, InForm}
@@ -34,6 +35,13 @@ pub record Sent (opening : ℕ) (calls : List Call) (line : List ℕ) : Type 0 w
   pub after : List Call
   pub moment : calls ≡ before ++ after
   pub message : MessageOf (reached (opened opening) before .log) line
+
+-- the same by the master's reply: asked for a stamp it hands out versions, and the line is their text
+pub record Answered (s : State) (line : List ℕ) : Type 0 where
+  pub stamp : ℕ
+  pub versions : List Entry
+  pub reply : step s (Message stamp) .reply ≡ made versions
+  pub text : line ≡ lineOf stamp (map itemOf versions)
 
 -- what a message of a log says: it is of document 01's form, it is read and taken, and it carries the versions that the commit at its
 -- stamp made, which are versions of the log
