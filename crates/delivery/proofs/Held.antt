@@ -98,6 +98,11 @@ module _ {opening clock : ℕ} {log : List Entry} (c : Chain opening clock log) 
         (all-is freshCopy k xs)
 
   module _ {k : ℕ} {xs : List Arrival} where
+    -- none that was taken of the key is newer
+    pub taken-top : {v : Version} {x : Arrival} → NewestTaken log k xs v → In x xs → x .item .key ≡ k → x .item .ordinal .0 ≤ v .ordinal .0
+    taken-top (kept.start h) i q = absurd (every-in h i q)
+    taken-top (taken e j p a h) i q = every-in h i q .0
+
     -- what is held is never ahead of the master
     pub taken-le : {v : Version} → NewestTaken log k xs v → v .ordinal .0 ≤ newest log k .ordinal .0
     taken-le (kept.start h) = omega arith

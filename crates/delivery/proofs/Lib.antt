@@ -2,3 +2,6 @@
 pub mod Values
 pub mod Messages
 pub mod Held
+pub mod Named
+pub mod Quiet
+pub mod Again

@@ -30,7 +30,7 @@ use Rattle.model.proofs.Reached.{good-reached}
 use Rattle.model.proofs.Sent.{made-stays}
 use Rattle.versions.specs.Batch.{itemOf}
 use Rattle.message.specs.Line.{lineOf, InRanges, named, distinct, InForm}
-use Rattle.message.specs.Read.{whole, readLine}
+use Rattle.message.specs.Read.{Reading, whole, readLine}
 use Rattle.message.proofs.Exactly.{line-back}
 use Rattle.copy.specs.Copy.{taken, takeLine}
 use Rattle.copy.specs.Arrivals.{Arrival, arrival, carried, arrivals}
@@ -74,6 +74,10 @@ module _ (opening : ℕ) (low : opening ≤ 4294967295) (calls : List Call) wher
       record { stamp = t; wrote = λ e. m .message .wrote (sym same ∙ e); text = m .message .text ∙ message-same (s .log) (reached (opened opening) calls .log) t (sym same) }
 
 -- ---- the form
+
+carried-whole : {r : Reading} {stamp : ℕ} {items : List Item} → r ≡ whole stamp items → carried r ≡ map (arrival stamp) items
+unfolding carried
+carried-whole e = rw e
 
 -- "no key twice"
 distinct-items : (es : List Entry) → Distinct (map (λ (e : Entry). e .key) es) → distinct (map itemOf es) ≡ true
@@ -156,17 +160,17 @@ module _ {opening : ℕ} (s : State) (g : Good opening s) where
             taken = line-taken;
           }
 
+      -- a version of a message's stamp is carried by it
+      pub version-carried : {e : Entry} → In e (madeAt (s .log) (m .stamp)) → In (arrivalOf e) (carried (readLine line))
+      version-carried {e} i = rw (carried-whole line-reads, made-in (s .log) (m .stamp) e i .1) (in-map (arrival (m .stamp)) (in-map itemOf i))
+
 -- ---- what it carries
 
 module _ {log : List Entry} where
-  carries : {line : List ℕ} (m : Says log line) → carried (readLine line) ≡ map (arrival (m .stamp)) (map itemOf (madeAt log (m .stamp)))
-  unfolding carried
-  carries m = rw (m .reads)
-
   -- "each message taken is one this master sent": what arrives are versions of its log
   line-committed : {line : List ℕ} → Says log line → Every (Committed log) (carried (readLine line))
   line-committed m =
-      rw (carries m)
+      rw (carried-whole (m .reads))
       (every-image (Committed log) (arrival (m .stamp)) (every-image (λ (i : Item). Committed log (arrival (m .stamp) i)) itemOf
       (every-map (λ (e : Entry) h. record { entry = e; there = h .0; same = ap (λ (t : ℕ). arrival t (itemOf e)) (sym (h .1)) }) (m .logged))))
 
@@ -174,12 +178,6 @@ module _ {log : List Entry} where
   unfolding arrivals
   lines-committed none = none
   lines-committed (also m ms) = every-append (line-committed m) (lines-committed ms)
-
-  -- a version of a message's stamp is carried by it
-  pub version-carried : {line : List ℕ} {e : Entry} (m : Says log line) → In e (madeAt log (m .stamp)) → In (arrivalOf e) (carried (readLine line))
-  version-carried {e = e} m i =
-      let h : In e log × (e .stamp ≡ m .stamp) = every-in (m .logged) i in
-      rw (carries m, h .1) (in-map (arrival (m .stamp)) (in-map itemOf i))
 
 -- a version that one of the lines carries arrives
 pub line-arrives : {x : Arrival} {line : List ℕ} {lines : List (List ℕ)} → In line lines → In x (carried (readLine line)) → In x (arrivals lines)
