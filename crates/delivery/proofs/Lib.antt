@@ -5,3 +5,5 @@ pub mod Held
 pub mod Named
 pub mod Quiet
 pub mod Again
+pub mod Equal
+pub mod Delivery
