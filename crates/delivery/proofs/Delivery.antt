@@ -1,9 +1,9 @@
 -- Demand 3, over every session of one master from its opening and every list of lines that it sent: "Take one master from its opening and one
 -- fresh copy, and let messages be lost, repeated or reordered." The lines may stand in any order, some not at all and some again.
-use Prim.Native.Nat.{ℕ, _≤_}
+use Prim.Native.Nat.{ℕ, _≤_, _<_}
 use native.Mathlib.Omega.{arith}
-use mathlib.Core.Path.{_≡_, refl, sym, _∙_, ap, subst}
-use mathlib.Core.List.{List, _++_}
+use mathlib.Core.Path.{_≡_, sym, _∙_, ap, subst}
+use mathlib.Core.List.{List, [], _++_, append-nil}
 use Rattle.lists.specs.Lists.{Every}
 use Rattle.lists.specs.Members.{In}
 use Rattle.lists.proofs.Every.{every-map}
@@ -22,12 +22,12 @@ use Rattle.copy.specs.declared.Copy.{Copy}
 use Rattle.delivery.specs.Sent.{MessageOf, Sent, Says}
 use Rattle.delivery.specs.Values.{Writable, Ranged}
 use Rattle.delivery.specs.Held.{NewestTaken}
-use Rattle.delivery.specs.Named.{Named, Lacks, NamesBehind, names, newestMessage, ForNamed, OneForEach, NoCommit}
+use Rattle.delivery.specs.Named.{Named, Lacks, NamesBehind, names, newestMessage, Given, ForNamed, OneForEach, NoCommit}
 use Rattle.delivery.proofs.Values.{ranged-reached}
-use Rattle.delivery.proofs.Messages.{sent-stays, message-says}
+use Rattle.delivery.proofs.Messages.{reached-append, sent-stays, message-says}
 use Rattle.delivery.proofs.Named.{compared-equal}
 use Rattle.delivery.proofs.Quiet.{quiet-log}
-use Rattle.delivery.proofs.Equal.{newest-message, log-holds, log-names, log-equal}
+use Rattle.delivery.proofs.Equal.{newest-message, newest-given, log-holds, log-names, log-equal}
 
 -- a key that the word names is one that the copy lacks
 named-lacks : {log : List Entry} {c : Copy} {a : Compared} (word number low : ℕ) → NamesBehind log c a → a ≡ Behind word number low → (k : ℕ) → k ≤ 63 → Named word k → Lacks log c k
@@ -75,22 +75,45 @@ module _ (opening : ℕ) (low : opening ≤ 4294967295) (calls : List Call) (wri
         {further : List (List ℕ)}
         (one : OneForEach (reached end more .log) word further)
       where
-      same : reached end more .log ≡ end .log
-      same = quiet-log end more quiet
+        abbrev later : State
+        later = reached end more
 
-      here : OneForEach (end .log) word further
-      here = subst (λ (log : List Entry). OneForEach log word further) same one
+        same : later .log ≡ end .log
+        same = quiet-log end more quiet
 
-      for-named : (line : List ℕ) → ForNamed (end .log) word line → MessageOf (end .log) line
-      for-named line f =
-          let l : Lacks (end .log) copy (f .key) = named-lacks word number lowest names-behind answer (f .key) (f .within) (f .named) in
-          subst (MessageOf (end .log)) (sym (f .text)) (newest-message end good (f .key) (omega arith))
+        later-good : Good opening later
+        later-good = subst (Good opening) (reached-append (opened opening) calls more) (good-reached opening low (calls ++ more))
 
-      -- "taking one message for each named key, in any order, makes the two equal"
-      pub makes-equal : (k : ℕ) → k ≤ 63 → held (takeLines copy further) k ≡ newest (reached end more .log) k
-      makes-equal k h =
-          log-equal end good ranged messages (every-map for-named (here .only)) (λ j l d. here .each j l (lacks-named word number lowest names-behind answer j l d)) k h
-          ∙ ap (λ (log : List Entry). newest log k) (sym same)
+        has-version : (k : ℕ) → k ≤ 63 → Named word k → 0 < newest (later .log) k .ordinal .0
+        has-version k h n =
+            let l : Lacks (end .log) copy k = named-lacks word number lowest names-behind answer k h n in
+            subst (λ (log : List Entry). 0 < newest log k .ordinal .0) (sym same) (omega arith)
 
-      pub compares-equal : compared (reached end more .log) (ordinalsOf (takeLines copy further)) ≡ Behind 0 0 64
-      compares-equal = compared-equal (reached end more .log) (takeLines copy further) makes-equal
+        for-named : (line : List ℕ) → ForNamed (later .log) word line → MessageOf (later .log) line
+        for-named line f = subst (MessageOf (later .log)) (sym (f .text)) (newest-message later later-good (f .key) (has-version (f .key) (f .within) (f .named)))
+
+        -- each of these lines is one that this master sends then
+        pub further-sent : Every (Sent opening (calls ++ more)) further
+        further-sent =
+            every-map (λ line f. record {
+              before = calls ++ more;
+              after = [];
+              moment = sym (append-nil (calls ++ more));
+              message = subst (λ (s : State). MessageOf (s .log) line) (sym (reached-append (opened opening) calls more)) (for-named line f);
+            }) (one .only)
+
+        -- "it is the message of the commit that made that key's newest version"
+        pub further-given : (k : ℕ) → k ≤ 63 → Named word k → Given later k (newestMessage (later .log) k)
+        further-given k h n = newest-given later later-good k (has-version k h n) h
+
+        -- "taking one message for each named key, in any order, makes the two equal"
+        pub makes-equal : (k : ℕ) → k ≤ 63 → held (takeLines copy further) k ≡ newest (later .log) k
+        makes-equal k h =
+            log-equal end good ranged messages (every-map (λ line f. subst (λ (log : List Entry). MessageOf log line) same (for-named line f)) (one .only)) each k h
+            ∙ ap (λ (log : List Entry). newest log k) (sym same)
+          where
+            each : (j : ℕ) → j ≤ 63 → Lacks (end .log) copy j → In (newestMessage (end .log) j) further
+            each j l d = subst (λ (log : List Entry). In (newestMessage log j) further) same (one .each j l (lacks-named word number lowest names-behind answer j l d))
+
+        pub compares-equal : compared (later .log) (ordinalsOf (takeLines copy further)) ≡ Behind 0 0 64
+        compares-equal = compared-equal (later .log) (takeLines copy further) makes-equal

@@ -2,9 +2,9 @@
 use Prim.Native.Nat.{ℕ, _≤_, _<_}
 use native.Mathlib.Decide.{decLt}
 use native.Mathlib.Omega.{arith}
-use mathlib.Core.Path.{_≡_, refl, sym, _∙_, ap, subst}
+use mathlib.Core.Path.{_≡_, refl, sym, ap, subst}
 use mathlib.Core.Logic.{_≢_}
-use mathlib.Core.List.{List, [], _∷_, _++_, map}
+use mathlib.Core.List.{List, [], _∷_, _++_}
 use borrow.Author.Tests.{le-ltb}
 use Rattle.lists.specs.Lists.{Every}
 use Rattle.lists.specs.Members.{In}
@@ -13,13 +13,11 @@ use Rattle.lists.proofs.Members.{in-nothing, in-right}
 use Rattle.units.specs.declared.Version.{Version}
 use Rattle.model.specs.Log.{Entry, versionOf, newest, madeAt}
 use Rattle.model.specs.State.{State}
-use Rattle.model.specs.Call.{Message, Newest, made, madeBy}
+use Rattle.model.specs.Call.{Newest, madeBy}
 use Rattle.model.specs.Step.{step, order}
 use Rattle.model.specs.Reached.{Chain, Good, NewestOf, start, last}
 use Rattle.model.proofs.History.{chain, newest-is}
 use Rattle.model.proofs.Made.{in-made}
-use Rattle.versions.specs.Batch.{itemOf}
-use Rattle.message.specs.Line.{lineOf}
 use Rattle.comparison.specs.Comparison.{compared}
 use Rattle.copy.specs.Copy.{freshCopy, held, ordinalsOf, takeLine}
 use Rattle.copy.specs.Arrivals.{takeLines, arrivals}
@@ -28,7 +26,7 @@ use Rattle.copy.proofs.Newest.{lines-all}
 use Rattle.delivery.specs.Sent.{MessageOf, Says}
 use Rattle.delivery.specs.Values.{Ranged}
 use Rattle.delivery.specs.Held.{arrivalOf, NewestTaken}
-use Rattle.delivery.specs.Named.{Lacks, NamesBehind, newestMessage}
+use Rattle.delivery.specs.Named.{Lacks, NamesBehind, newestMessage, Given}
 use Rattle.delivery.proofs.Messages.{message-all, answers-message, message-says, version-carried, lines-committed, line-arrives}
 use Rattle.delivery.proofs.Held.{newest-held, taken-top, taken-le, taken-newest}
 use Rattle.delivery.proofs.Named.{compared-names}
@@ -75,10 +73,20 @@ module _ {opening : ℕ} (s : State) (g : Good opening s) where
     abbrev pub newest-message : MessageOf (s .log) (newestMessage (s .log) k)
     newest-message = record { stamp = newest (s .log) k .stamp .0; wrote = newest-wrote; text = refl }
 
-    -- "it is the message of the commit that made that key's newest version": the master hands it out for the stamp that it answers for the key
-    pub newest-given : (step s (Message (newest (s .log) k .stamp .0)) .reply ≡ made (madeAt (s .log) (newest (s .log) k .stamp .0)))
-        × (newestMessage (s .log) k ≡ lineOf (newest (s .log) k .stamp .0) (map itemOf (madeAt (s .log) (newest (s .log) k .stamp .0))))
-    newest-given = (answers-message s g (newest (s .log) k .stamp .0) newest-wrote, message-all s g (newest (s .log) k .stamp .0))
+    -- "it is the message of the commit that made that key's newest version"
+    pub newest-given : k ≤ 63 → Given s k (newestMessage (s .log) k)
+    newest-given h =
+        record {
+          stamp = newest (s .log) k .stamp .0;
+          versions = madeAt (s .log) (newest (s .log) k .stamp .0);
+          entry = newest-one .entry;
+          named = newest-answer s k h;
+          given = answers-message s g (newest (s .log) k .stamp .0) newest-wrote;
+          there = newest-made;
+          key = newest-one .key;
+          same = newest-one .same;
+          text = message-all s g (newest (s .log) k .stamp .0);
+        }
 
   module _ (r : Ranged s) where
     all-say : {lines : List (List ℕ)} → Every (MessageOf (s .log)) lines → Every (Says (s .log)) lines
@@ -102,22 +110,22 @@ module _ {opening : ℕ} (s : State) (g : Good opening s) where
         (k : ℕ)
         (low : k ≤ 63)
       where
-      abbrev after : Copy
-      after = takeLines (takeLines freshCopy lines) further
+        abbrev after : Copy
+        after = takeLines (takeLines freshCopy lines) further
 
-      then-holds : NewestTaken (s .log) k (arrivals (lines ++ further)) (held after k)
-      then-holds =
-          subst (λ (c : Copy). NewestTaken (s .log) k (arrivals (lines ++ further)) (held c k)) (lines-append freshCopy lines further)
-          (log-holds (every-append ms fs) k low)
+        then-holds : NewestTaken (s .log) k (arrivals (lines ++ further)) (held after k)
+        then-holds =
+            subst (λ (c : Copy). NewestTaken (s .log) k (arrivals (lines ++ further)) (held c k)) (lines-append freshCopy lines further)
+            (log-holds (every-append ms fs) k low)
 
-      reaches : Dec (Lacks (s .log) (takeLines freshCopy lines) k) → newest (s .log) k .ordinal .0 ≤ held after k .ordinal .0
-      reaches (yes l) =
-          let some : 0 < newest (s .log) k .ordinal .0 = omega arith in
-          let n : NewestEntry (s .log) k (newest (s .log) k) = newest-one k some in
-          let i : In (arrivalOf (n .entry)) (arrivals (lines ++ further)) =
-          line-arrives (in-right lines (each k low l)) (version-carried s g r (newest-message k some) (newest-made k some)) in
-          subst (λ (v : Version). v .ordinal .0 ≤ held after k .ordinal .0) (sym (n .same)) (taken-top whole-log then-holds i (n .key))
-      reaches (no l) = let b = never-back (takeLines freshCopy lines) further k in omega arith
+        reaches : Dec (Lacks (s .log) (takeLines freshCopy lines) k) → newest (s .log) k .ordinal .0 ≤ held after k .ordinal .0
+        reaches (yes l) =
+            let some : 0 < newest (s .log) k .ordinal .0 = omega arith in
+            let n : NewestEntry (s .log) k (newest (s .log) k) = newest-one k some in
+            let i : In (arrivalOf (n .entry)) (arrivals (lines ++ further)) =
+            line-arrives (in-right lines (each k low l)) (version-carried s g r (newest-message k some) (newest-made k some)) in
+            subst (λ (v : Version). v .ordinal .0 ≤ held after k .ordinal .0) (sym (n .same)) (taken-top whole-log then-holds i (n .key))
+        reaches (no l) = let b = never-back (takeLines freshCopy lines) further k in omega arith
 
-      pub log-equal : held after k ≡ newest (s .log) k
-      log-equal = taken-newest whole-log then-holds (reaches (decLt (held (takeLines freshCopy lines) k .ordinal .0) (newest (s .log) k .ordinal .0)))
+        pub log-equal : held after k ≡ newest (s .log) k
+        log-equal = taken-newest whole-log then-holds (reaches (decLt (held (takeLines freshCopy lines) k .ordinal .0) (newest (s .log) k .ordinal .0)))

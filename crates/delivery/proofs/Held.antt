@@ -3,10 +3,10 @@ use Prim.Native.Nat.{ℕ, _≤_, _<_}
 use native.Mathlib.Decide.{decLt}
 use native.Mathlib.Omega.{arith}
 use mathlib.Core.Path.{_≡_, refl, sym, _∙_, ap, subst}
-use mathlib.Core.Logic.{_≢_, _⊎_, ⊎-elim}
+use mathlib.Core.Logic.{_⊎_, ⊎-elim}
 use mathlib.Core.List.{List, _∷_}
-use lib.ListN.{length, getD-replicate}
-use Rattle.lists.specs.Lists.{Every, none, also}
+use lib.ListN.{getD-replicate}
+use Rattle.lists.specs.Lists.{Every, also}
 use Rattle.lists.specs.Members.{In, here, below}
 use Rattle.lists.proofs.Every.{every-map, every-both}
 use Rattle.lists.proofs.Members.{every-in}

@@ -10,7 +10,7 @@ use mathlib.Core.List.{List, [], _∷_, _++_, map}
 use lib.ListN.{length, take, length-map}
 use lib.Seq.{take-all}
 use borrow.Author.Tests.{ne-eqb}
-use Rattle.lists.specs.Lists.{any, Every, none, also}
+use Rattle.lists.specs.Lists.{Every, none, also}
 use Rattle.lists.specs.Members.{In, here, below, Distinct, apart}
 use Rattle.lists.proofs.Every.{every-map, every-append, any-none}
 use Rattle.lists.proofs.Images.{every-image, image-every}
@@ -23,7 +23,7 @@ use Rattle.model.specs.Step.{Step, step}
 use Rattle.model.specs.Session.{reached}
 use Rattle.model.specs.Reached.{Good}
 use Rattle.model.proofs.Replies.{other}
-use Rattle.model.proofs.History.{chain, chain-from, chain-stamps, ordinal-range}
+use Rattle.model.proofs.History.{chain, chain-stamps, ordinal-range}
 use Rattle.model.proofs.Made.{made-few, made-once, made-keys, made-in, made-later}
 use Rattle.model.proofs.Granted.{message-none, message-whole}
 use Rattle.model.proofs.Reached.{good-reached}

@@ -4,11 +4,15 @@
 use Prim.Native.Nat.{ℕ, _/_, _%_, _^_, _≤_, _<_}
 use mathlib.Core.Path.{_≡_}
 use mathlib.Core.Logic.{_↔_, _≢_}
-use mathlib.Core.List.{List}
+use mathlib.Core.List.{List, map}
 use Rattle.lists.specs.Lists.{Every}
 use Rattle.lists.specs.Members.{In}
-use Rattle.model.specs.Log.{Entry, newest}
-use Rattle.model.specs.Call.{Reply, committed}
+use Rattle.model.specs.Log.{Entry, versionOf, newest}
+use Rattle.model.specs.State.{State}
+use Rattle.model.specs.Call.{Message, Newest, Reply, committed, made, madeBy}
+use Rattle.model.specs.Step.{step}
+use Rattle.versions.specs.Batch.{itemOf}
+use Rattle.message.specs.Line.{lineOf}
 use Rattle.comparison.specs.Comparison.{isBehind, howMany}
 use Rattle.comparison.specs.declared.Compared.{Compared}
 use Rattle.comparison.specs.declared.Compared.the-variants.{Behind}
@@ -37,6 +41,19 @@ pub data NamesBehind (log : List Entry) (c : Copy) : Compared → Type 0 where
 -- "the message of the commit that made that key's newest version"
 abbrev pub newestMessage : List Entry → ℕ → List ℕ
 newestMessage log k = messageAt log (newest log k .stamp .0)
+
+-- The line is that message: for the key the master answers the stamp of a commit, for this stamp it hands out versions, the key's newest among
+-- them, and the line is their text.
+pub record Given (s : State) (k : ℕ) (line : List ℕ) : Type 0 where
+  pub stamp : ℕ
+  pub versions : List Entry
+  pub entry : Entry
+  pub named : step s (Newest k) .reply ≡ madeBy stamp
+  pub given : step s (Message stamp) .reply ≡ made versions
+  pub there : In entry versions
+  pub key : entry .key ≡ k
+  pub same : newest (s .log) k ≡ versionOf entry
+  pub text : line ≡ lineOf stamp (map itemOf versions)
 
 pub record ForNamed (log : List Entry) (word : ℕ) (line : List ℕ) : Type 0 where
   pub key : ℕ

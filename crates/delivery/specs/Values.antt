@@ -1,5 +1,4 @@
 -- "A value is any signed 32-bit number": what the type of the code's values says of a session, and what it comes to in the state.
-use Prim.Native.Nat.{ℕ}
 use Rattle.lists.specs.Lists.{Every}
 use Rattle.decimal.specs.Read.{InRange, values}
 use Rattle.transaction.specs.declared.Write as pending
@@ -22,9 +21,9 @@ Writable (Message t) = Unit {0}
 Writable (Newest k) = Unit {0}
 
 -- every pending write of a transaction; what stands at its places not yet written is 0
-abbrev pub Pending : Transaction → Type 0
-Pending t = Every (λ (w : pending.Write). InRange values (w .value)) (t .writes)
+abbrev pub WritesRanged : Transaction → Type 0
+WritesRanged t = Every (λ (w : pending.Write). InRange values (w .value)) (t .writes)
 
 pub record Ranged (s : State) : Type 0 where
   pub log : Every (λ (e : Entry). InRange values (e .value)) (s .log)
-  pub desk : Every Pending (s .place)
+  pub desk : Every WritesRanged (s .place)
