@@ -86,7 +86,7 @@ module _ {opening clock : ℕ} {log : List Entry} (c : Chain opening clock log) 
         let s : x .stamp ≡ m .entry .stamp = ap (λ (y : Arrival). y .stamp) (m .same) in
         let b : f .entry .key ≡ m .entry .key = f .key ∙ sym q ∙ ap (λ (y : Arrival). y .item .key) (m .same) in
         let o : m .entry .ordinal ≤ f .entry .ordinal = omega (arith, t q) in
-        let l : m .entry .stamp ≤ f .entry .stamp = stamp-le (f .there) (m .there) b o in
+        let l : m .entry .stamp ≤ f .entry .stamp = stamp-le {e = f .entry} {f = m .entry} (f .there) (m .there) b o in
         (omega arith, omega arith)) ts committed))
 
     -- "the copy always holds, for every key, the newest committed version among those taken, or the start version"

@@ -6,7 +6,7 @@ use native.Mathlib.Omega.{arith}
 use mathlib.Core.Path.{_≡_, refl, sym, _∙_, ap}
 use mathlib.Core.Logic.{_≢_, _↔_}
 use mathlib.Core.Bool.{true, false}
-use mathlib.Core.List.{List, [], _∷_, _++_, map}
+use mathlib.Core.List.{List, [], _∷_, _++_, map, append-assoc}
 use lib.ListN.{length, take, length-map}
 use lib.Seq.{take-all}
 use borrow.Author.Tests.{ne-eqb}
@@ -46,6 +46,16 @@ pub reached-append : (s : State) (before after : List Call) → reached s (befor
 unfolding reached
 reached-append s [] after = refl
 reached-append s (c ∷ before) after = reached-append (step s c .state) before after
+
+-- what was sent in a session was sent in one that goes on
+pub sent-later : {opening : ℕ} {calls : List Call} {line : List ℕ} (more : List Call) → Sent opening calls line → Sent opening (calls ++ more) line
+sent-later more m =
+    record {
+      before = m .before;
+      after = m .after ++ more;
+      moment = ap (λ (cs : List Call). cs ++ more) (m .moment) ∙ append-assoc (m .before) (m .after) more;
+      message = m .message;
+    }
 
 -- the message of a stamp is what was made at it
 message-same : (a b : List Entry) (t : ℕ) → madeAt a t ≡ madeAt b t → messageAt a t ≡ messageAt b t
