@@ -7,3 +7,4 @@ pub mod Count
 pub mod Filter
 pub mod Along
 pub mod Any
+pub mod Images

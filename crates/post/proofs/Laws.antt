@@ -25,7 +25,8 @@ use Rattle.message.specs.Line.{lineOf, itemsOf}
 use Rattle.message.specs.Write.{sentAs}
 use Rattle.message.specs.declared.write.Sent.{Sent}
 use Rattle.message.specs.declared.write.Sent.the-variants.{Refused}
-use Rattle.post.specs.Post.{messageAt, posted, roomAfter}
+use Rattle.delivery.specs.Sent.{messageAt}
+use Rattle.post.specs.Post.{posted, roomAfter}
 
 -- the number of a refusal, 0 for any other reply
 abbrev number : Reply → ℕ

@@ -1,21 +1,16 @@
 -- "Each commit that wrote something has one message". Message: 18, 17.
 use Prim.Native.Nat.{ℕ}
 use mathlib.Core.Bool.{cond}
-use mathlib.Core.List.{List, map}
+use mathlib.Core.List.{List}
 use lib.Dec.{eqb}
-use lib.ListN.{length, take}
+use lib.ListN.{length}
 use Rattle.units.specs.declared.refusal.Refusal.the-variants.{NothingWritten}
 use Rattle.model.specs.Log.{Entry, madeAt}
-use Rattle.versions.specs.Batch.{itemOf}
 use Rattle.decimal.specs.Write.{put}
-use Rattle.message.specs.Line.{lineOf}
 use Rattle.message.specs.Write.{sentAs}
+use Rattle.delivery.specs.Sent.{messageAt}
 use Rattle.message.specs.declared.write.Sent.{Sent}
 use Rattle.message.specs.declared.write.Sent.the-variants.{Refused}
-
--- the line of the commit at a stamp
-abbrev pub messageAt : List Entry → ℕ → List ℕ
-messageAt log stamp = lineOf stamp (map itemOf (take 16 (madeAt log stamp)))
 
 unfoldable pub posted : List Entry → ℕ → List ℕ → Sent
 posted log stamp room = cond (eqb (length (madeAt log stamp)) 0) (Refused NothingWritten) (sentAs room (messageAt log stamp))

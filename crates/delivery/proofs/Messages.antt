@@ -1,0 +1,196 @@
+-- A line that a master sent stays the message of its commit to the end of the session; it is of document 01's form, and carries versions of
+-- the log.
+use Prim.Native.Nat.{ℕ, suc, _≤_, _<_}
+use native.Mathlib.Decide.{decLt}
+use native.Mathlib.Omega.{arith}
+use mathlib.Core.Path.{_≡_, refl, sym, _∙_, ap}
+use mathlib.Core.Logic.{_≢_, _↔_}
+use mathlib.Core.Bool.{true, false}
+use mathlib.Core.List.{List, [], _∷_, _++_, map, append-assoc}
+use lib.ListN.{length, take, length-map}
+use lib.Seq.{take-all}
+use borrow.Author.Tests.{ne-eqb}
+use Rattle.lists.specs.Lists.{Every, none, also}
+use Rattle.lists.specs.Members.{In, here, below, Distinct, apart}
+use Rattle.lists.proofs.Every.{every-map, every-append, any-none}
+use Rattle.lists.proofs.Images.{every-image, image-every}
+use Rattle.lists.proofs.Members.{every-in, in-every, in-left, in-right, in-map}
+use Rattle.units.specs.declared.Item.{Item}
+use Rattle.model.specs.Log.{Entry, madeAt}
+use Rattle.model.specs.State.{State, opened}
+use Rattle.model.specs.Call.{Call, Message, made}
+use Rattle.model.specs.Step.{Step, step}
+use Rattle.model.specs.Session.{reached}
+use Rattle.model.specs.Reached.{Good}
+use Rattle.model.proofs.Replies.{other}
+use Rattle.model.proofs.History.{chain, chain-stamps, ordinal-range}
+use Rattle.model.proofs.Made.{made-few, made-once, made-keys, made-in, made-later}
+use Rattle.model.proofs.Granted.{message-none, message-whole}
+use Rattle.model.proofs.Reached.{good-reached}
+use Rattle.model.proofs.Sent.{made-stays}
+use Rattle.versions.specs.Batch.{itemOf}
+use Rattle.message.specs.Line.{lineOf, InRanges, named, distinct, InForm}
+use Rattle.message.specs.Read.{Reading, whole, readLine}
+use Rattle.message.proofs.Exactly.{line-back}
+use Rattle.copy.specs.Copy.{taken, takeLine}
+use Rattle.copy.specs.Arrivals.{Arrival, arrival, carried, arrivals}
+use Rattle.copy.specs.declared.Copy.{Copy}
+use Rattle.copy.specs.declared.TakeAnswer.{TakeAnswer}
+use Rattle.delivery.specs.Sent.{messageAt, MessageOf, Sent, Answered, Says}
+use Rattle.delivery.specs.Values.{Ranged}
+use Rattle.delivery.specs.Held.{arrivalOf, Committed}
+
+-- ---- to the end of the session
+
+pub reached-append : (s : State) (before after : List Call) → reached s (before ++ after) ≡ reached (reached s before) after
+unfolding reached
+reached-append s [] after = refl
+reached-append s (c ∷ before) after = reached-append (step s c .state) before after
+
+-- what was sent in a session was sent in one that goes on
+pub sent-later : {opening : ℕ} {calls : List Call} {line : List ℕ} (more : List Call) → Sent opening calls line → Sent opening (calls ++ more) line
+sent-later more m =
+    record {
+      before = m .before;
+      after = m .after ++ more;
+      moment = ap (λ (cs : List Call). cs ++ more) (m .moment) ∙ append-assoc (m .before) (m .after) more;
+      message = m .message;
+    }
+
+-- the message of a stamp is what was made at it
+message-same : (a b : List Entry) (t : ℕ) → madeAt a t ≡ madeAt b t → messageAt a t ≡ messageAt b t
+unfolding messageAt
+message-same a b t e = ap (λ (es : List Entry). lineOf t (map itemOf (take 16 es))) e
+
+-- where a stamp has a message, the clock has passed it
+passed-by : {opening : ℕ} (s : State) → Good opening s → (t : ℕ) → madeAt (s .log) t ≢ [] → t ≤ s .clock
+passed-by s g t h = go (decLt (s .clock) t)
+  where
+    go : Dec (s .clock < t) → t ≤ s .clock
+    go (yes l) = absurd (h (made-later (g .history) t l))
+    go (no l) = omega arith
+
+module _ (opening : ℕ) (low : opening ≤ 4294967295) (calls : List Call) where
+  -- a line once sent is the message of its commit in the log that the session reaches
+  pub sent-stays : {line : List ℕ} → Sent opening calls line → MessageOf (reached (opened opening) calls .log) line
+  sent-stays m =
+      let s : State = reached (opened opening) (m .before) in
+      let t : ℕ = m .message .stamp in
+      let past : t ≤ s .clock = passed-by s (good-reached opening low (m .before)) t (m .message .wrote) in
+      let same : madeAt (reached (opened opening) calls .log) t ≡ madeAt (s .log) t =
+      ap (λ (cs : List Call). madeAt (reached (opened opening) cs .log) t) (m .moment)
+      ∙ ap (λ (x : State). madeAt (x .log) t) (reached-append (opened opening) (m .before) (m .after))
+      ∙ made-stays s (m .after) t past in
+      record { stamp = t; wrote = λ e. m .message .wrote (sym same ∙ e); text = m .message .text ∙ message-same (s .log) (reached (opened opening) calls .log) t (sym same) }
+
+-- ---- the form
+
+carried-whole : {r : Reading} {stamp : ℕ} {items : List Item} → r ≡ whole stamp items → carried r ≡ map (arrival stamp) items
+unfolding carried
+carried-whole e = rw e
+
+-- "no key twice"
+distinct-items : (es : List Entry) → Distinct (map (λ (e : Entry). e .key) es) → distinct (map itemOf es) ≡ true
+unfolding distinct
+distinct-items [] d = refl
+distinct-items (e ∷ es) (apart n d) =
+    rw (
+      any-none (named (e .key)) (every-image (λ (i : Item). named (e .key) i ≡ false) itemOf (every-map (λ (f : Entry) h. ne-eqb (f .key) (e .key) h) (image-every (λ (k : ℕ). k ≢ e .key) (λ (f : Entry). f .key) es n))),
+      distinct-items es d,
+    )
+
+module _ {opening : ℕ} (s : State) (g : Good opening s) where
+  -- no commit made more than 16 versions
+  pub message-all : (t : ℕ) → messageAt (s .log) t ≡ lineOf t (map itemOf (madeAt (s .log) t))
+  unfolding messageAt
+  message-all t = ap (λ (es : List Entry). lineOf t (map itemOf es)) (take-all 16 (madeAt (s .log) t) (made-few (g .history) t))
+
+  pub answers-message : (t : ℕ) → madeAt (s .log) t ≢ [] → step s (Message t) .reply ≡ made (madeAt (s .log) t)
+  answers-message t h = ap (λ (d : Step). d .reply) (message-whole s g t h)
+
+  -- a message of the log is what the master hands out when it is asked for a stamp
+  pub message-exactly : (line : List ℕ) → MessageOf (s .log) line ↔ Answered s line
+  message-exactly line = (to, from)
+    where
+      to : MessageOf (s .log) line → Answered s line
+      to m = record { stamp = m .stamp; versions = madeAt (s .log) (m .stamp); reply = answers-message (m .stamp) (m .wrote); text = m .text ∙ message-all (m .stamp) }
+
+      from : Answered s line → MessageOf (s .log) line
+      from a =
+          let some : madeAt (s .log) (a .stamp) ≢ [] = λ e. other (sym (message-none s (a .stamp) e) ∙ a .reply) tt in
+          let same : made (madeAt (s .log) (a .stamp)) ≡ made (a .versions) = sym (answers-message (a .stamp) some) ∙ a .reply in
+          let all : madeAt (s .log) (a .stamp) ≡ a .versions = cc in
+          record { stamp = a .stamp; wrote = some; text = a .text ∙ ap (λ (es : List Entry). lineOf (a .stamp) (map itemOf es)) (sym all) ∙ sym (message-all (a .stamp)) }
+
+  module _ (r : Ranged s) where
+    in-ranges : (t : ℕ) (e : Entry) → In e (madeAt (s .log) t) → InRanges (itemOf e)
+    in-ranges t e i =
+        let there : In e (s .log) = made-in (s .log) t e i .0 in
+        let o : (1 ≤ e .ordinal) × (e .ordinal ≤ length (s .log)) = ordinal-range (chain (g .history)) there in
+        let room : length (s .log) ≤ 4096 = g .room in
+        record { key = every-in (made-keys (g .history) t) (in-map (λ (e : Entry). e .key) i); first = o .0; last = omega (arith, o .1); value = every-in (r .log) there }
+
+    -- every message is of the form of document 01
+    pub in-form : (t : ℕ) → madeAt (s .log) t ≢ [] → InForm t (map itemOf (madeAt (s .log) t))
+    in-form t h = go (madeAt (s .log) t) refl
+      where
+        go : (es : List Entry) → madeAt (s .log) t ≡ es → InForm t (map itemOf (madeAt (s .log) t))
+        go [] q = absurd (h q)
+        go (e ∷ es) q =
+            let i : In e (madeAt (s .log) t) = rw q here in
+            let m : In e (s .log) × (e .stamp ≡ t) = made-in (s .log) t e i in
+            let c : (opening < e .stamp) × (e .stamp ≤ s .clock) = every-in (chain-stamps (chain (g .history))) (m .0) in
+            let few : length (madeAt (s .log) t) ≤ 16 = made-few (g .history) t in
+            let some : length (madeAt (s .log) t) ≡ suc (length es) = ap length q in
+            let size : length (map itemOf (madeAt (s .log) t)) ≡ length (madeAt (s .log) t) = length-map (madeAt (s .log) t) itemOf in
+            record {
+              early = omega (arith, c .0, m .1);
+              late = omega (arith, c .1, m .1, g .ticks);
+              some = omega arith;
+              few = omega arith;
+              ranges = every-image InRanges itemOf (in-every (λ (f : Entry). InRanges (itemOf f)) (madeAt (s .log) t) (in-ranges t));
+              apart = distinct-items (madeAt (s .log) t) (made-once (g .history) t);
+            }
+
+    module _ {line : List ℕ} (m : MessageOf (s .log) line) where
+      line-reads : readLine line ≡ whole (m .stamp) (map itemOf (madeAt (s .log) (m .stamp)))
+      line-reads = ap readLine (m .text ∙ message-all (m .stamp)) ∙ line-back (m .stamp) (map itemOf (madeAt (s .log) (m .stamp))) (in-form (m .stamp) (m .wrote))
+
+      line-taken : (c : Copy) → takeLine c line .answer ≡ TakeAnswer.Taken
+      unfolding takeLine taken
+      line-taken c = rw line-reads
+
+      pub message-says : Says (s .log) line
+      message-says =
+          record {
+            stamp = m .stamp;
+            form = in-form (m .stamp) (m .wrote);
+            reads = line-reads;
+            logged = in-every (λ (e : Entry). In e (s .log) × (e .stamp ≡ m .stamp)) (madeAt (s .log) (m .stamp)) (made-in (s .log) (m .stamp));
+            taken = line-taken;
+          }
+
+      -- a version of a message's stamp is carried by it
+      pub version-carried : {e : Entry} → In e (madeAt (s .log) (m .stamp)) → In (arrivalOf e) (carried (readLine line))
+      version-carried {e} i = rw (carried-whole line-reads, made-in (s .log) (m .stamp) e i .1) (in-map (arrival (m .stamp)) (in-map itemOf i))
+
+-- ---- what it carries
+
+module _ {log : List Entry} where
+  -- "each message taken is one this master sent": what arrives are versions of its log
+  line-committed : {line : List ℕ} → Says log line → Every (Committed log) (carried (readLine line))
+  line-committed m =
+      rw (carried-whole (m .reads))
+      (every-image (Committed log) (arrival (m .stamp)) (every-image (λ (i : Item). Committed log (arrival (m .stamp) i)) itemOf
+      (every-map (λ (e : Entry) h. record { entry = e; there = h .0; same = ap (λ (t : ℕ). arrival t (itemOf e)) (sym (h .1)) }) (m .logged))))
+
+  pub lines-committed : {lines : List (List ℕ)} → Every (Says log) lines → Every (Committed log) (arrivals lines)
+  unfolding arrivals
+  lines-committed none = none
+  lines-committed (also m ms) = every-append (line-committed m) (lines-committed ms)
+
+-- a version that one of the lines carries arrives
+pub line-arrives : {x : Arrival} {line : List ℕ} {lines : List (List ℕ)} → In line lines → In x (carried (readLine line)) → In x (arrivals lines)
+unfolding arrivals
+line-arrives (here {xs = ls}) i = in-left (arrivals ls) i
+line-arrives (below {y = l} j) i = in-right (carried (readLine l)) (line-arrives j i)

@@ -1,0 +1,71 @@
+-- The keys that the comparison names, and the messages that make the two equal. Demand 3: "The comparison names exactly the keys where it is
+-- behind. If no commit comes between, taking one message for each named key, in any order, makes the two equal; it is the message of the commit
+-- that made that key's newest version."
+use Prim.Native.Nat.{ℕ, _/_, _%_, _^_, _≤_, _<_}
+use mathlib.Core.Path.{_≡_}
+use mathlib.Core.Logic.{_↔_, _≢_}
+use mathlib.Core.List.{List, map}
+use Rattle.lists.specs.Lists.{Every}
+use Rattle.lists.specs.Members.{In}
+use Rattle.model.specs.Log.{Entry, versionOf, newest}
+use Rattle.model.specs.State.{State}
+use Rattle.model.specs.Call.{Message, Newest, Reply, committed, made, madeBy}
+use Rattle.model.specs.Step.{step}
+use Rattle.versions.specs.Batch.{itemOf}
+use Rattle.message.specs.Line.{lineOf}
+use Rattle.comparison.specs.Comparison.{isBehind, howMany}
+use Rattle.comparison.specs.declared.Compared.{Compared}
+use Rattle.comparison.specs.declared.Compared.the-variants.{Behind}
+use Rattle.copy.specs.Copy.{held, ordinalsOf}
+use Rattle.copy.specs.declared.Copy.{Copy}
+use Rattle.delivery.specs.Sent.{messageAt}
+
+-- "a 64-bit word with a one for each key that is behind"
+abbrev pub Named : ℕ → ℕ → Type 0
+Named word k = word / 2 ^ k % 2 ≡ 1
+
+-- the copy's ordinal of the key is below the master's
+abbrev pub Lacks : List Entry → Copy → ℕ → Type 0
+Lacks log c k = held c k .ordinal .0 < newest log k .ordinal .0
+
+-- "the lowest of them (64 if none)"
+pub data Lowest (P : ℕ → Type 0) : ℕ → Type 0 where
+  first : {k : ℕ} → k ≤ 63 → P k → ((j : ℕ) → j < k → ¬ P j) → Lowest P k
+  nowhere : ((j : ℕ) → j ≤ 63 → ¬ P j) → Lowest P 64
+
+-- an answer with a word, which is so no refusal 11, and what it names
+pub data NamesBehind (log : List Entry) (c : Copy) : Compared → Type 0 where
+  names : (word number low : ℕ) → ((k : ℕ) → k ≤ 63 → Named word k ↔ Lacks log c k) → number ≡ howMany (isBehind log (ordinalsOf c)) 64 → Lowest (Lacks log c) low
+      → NamesBehind log c (Behind word number low)
+
+-- "the message of the commit that made that key's newest version"
+abbrev pub newestMessage : List Entry → ℕ → List ℕ
+newestMessage log k = messageAt log (newest log k .stamp .0)
+
+-- The line is that message: for the key the master answers the stamp of a commit, for this stamp it hands out versions, the key's newest among
+-- them, and the line is their text.
+pub record Given (s : State) (k : ℕ) (line : List ℕ) : Type 0 where
+  pub stamp : ℕ
+  pub versions : List Entry
+  pub entry : Entry
+  pub named : step s (Newest k) .reply ≡ madeBy stamp
+  pub given : step s (Message stamp) .reply ≡ made versions
+  pub there : In entry versions
+  pub key : entry .key ≡ k
+  pub same : newest (s .log) k ≡ versionOf entry
+  pub text : line ≡ lineOf stamp (map itemOf versions)
+
+pub record ForNamed (log : List Entry) (word : ℕ) (line : List ℕ) : Type 0 where
+  pub key : ℕ
+  pub within : key ≤ 63
+  pub named : Named word key
+  pub text : line ≡ newestMessage log key
+
+-- "one message for each named key, in any order"; some may come again
+pub record OneForEach (log : List Entry) (word : ℕ) (lines : List (List ℕ)) : Type 0 where
+  pub only : Every (ForNamed log word) lines
+  pub each : (k : ℕ) → k ≤ 63 → Named word k → In (newestMessage log k) lines
+
+-- "no commit comes between": none of these replies is of a granted commit
+abbrev pub NoCommit : List Reply → Type 0
+NoCommit rs = Every (λ (r : Reply). (m : ℕ) → r ≢ committed m) rs
