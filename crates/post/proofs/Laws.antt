@@ -61,7 +61,7 @@ module _ (m : Master) (log : List Entry) (st : ℕ) (a : MadeAnswer) (e : steppe
 
   pub made-sends : (b : Batch) (room after : List ℕ) (r : Sent) → a ≡ MadeAnswer.Made → b ≡ batchOf (madeAt log st) → r ≡ sentAs room (lineOf st (itemsOf b))
       → after ≡ put room 0 (lineOf st (itemsOf b)) → (r ≡ posted log st room) × (after ≡ roomAfter log st room)
-  unfolding posted roomAfter
+  unfolding posted roomAfter messageAt
   made-sends b room after r h g w x = go (eqb (length (madeAt log st)) 0) (sym (ap (λ (y : MadeAnswer). number (madeReply y (madeAt log st))) h) ∙ told)
     where
       line : lineOf st (itemsOf b) ≡ messageAt log st
