@@ -1,5 +1,5 @@
 -- What a record adds, by the two questions that the code asks: whether it commits, and which read it asks to be recorded.
-use Prim.Native.Nat.{ℕ, suc, _+_, _-_, _*_, _%_, _^_, _<_, _≤_, min}
+use Prim.Native.Nat.{ℕ, suc, _-_, _*_, _%_, _^_, min}
 use native.Mathlib.Nat.{one-mul, mod-lt, mod-eq-of-lt}
 use native.Mathlib.Omega.{arith}
 use mathlib.Core.Path.{_≡_, refl, sym, _∙_, ap}
@@ -19,7 +19,6 @@ use Rattle.rows.specs.Table.{Table, placeOf, loaded, stored, rowsOf}
 use Rattle.rows.proofs.Walk.{row-of}
 use Rattle.trial.specs.Reads.{Reads, noteAt}
 use Rattle.ledger.specs.declared.Counts.{Counts}
-use Rattle.ledger.specs.declared.Taken.{Taken}
 use Rattle.ledger.specs.declared.Taken.the-variants.{Refused, Went}
 use Rattle.ledger.specs.declared.Check.{Check}
 use Rattle.ledger.specs.declared.Check.the-variants.{Passes, Fails}

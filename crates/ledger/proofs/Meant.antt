@@ -1,34 +1,31 @@
 -- What the columns after a step stand for is what the step of the meaning makes of what they stood for before.
-use Prim.Native.Nat.{ℕ, zero, suc, _+_, _-_, _%_, _<_, _≤_, min}
+use Prim.Native.Nat.{ℕ, zero, suc, _-_, _<_, min}
 use native.Mathlib.Omega.{arith}
-use mathlib.Core.Path.{_≡_, refl, sym, _∙_, ap}
+use mathlib.Core.Path.{_≡_, refl, _∙_, ap}
 use mathlib.Core.Bool.{Bool, true, false, cond, false≢true}
 use mathlib.Core.List.{List, [], _∷_}
-use lib.Dec.{eqb, leb, ltb}
-use lib.ListN.{length}
-use borrow.Author.Tests.{ltb-true, leb-false}
+use lib.Dec.{leb, ltb}
+use borrow.Author.Tests.{leb-false}
 use Rattle.lists.specs.Lists.{any}
-use Rattle.records.specs.Ledger.{Ledger, Outcome, refused, went, nameOf, rowOf, become, named, isOpen, freshRow, isRecorded, changed, noted, concluded, begun, moved}
+use Rattle.records.specs.Ledger.{refused, went, nameOf, rowOf, become, isOpen, freshRow, isRecorded, changed, noted, concluded, begun, moved}
 use Rattle.records.specs.Ledger as meaning
 use Rattle.records.specs.declared.Record.{Record}
 use Rattle.records.specs.declared.Record.the-variants.{Start, Tune, Read, Write, Commit, Abort}
 use Rattle.records.specs.declared.Row.{Row}
 use Rattle.records.specs.declared.Seen.{Seen}
 use Rattle.records.specs.declared.Judged.{Judged}
-use Rattle.rows.specs.Table.{Table, rowsOf, placeOf, loaded, stored}
+use Rattle.rows.specs.Table.{rowsOf, placeOf, loaded, stored}
 use Rattle.rows.specs.Table as table
 use Rattle.rows.proofs.Walk.{any-named, rows-length, row-of}
 use Rattle.rows.proofs.Stored.{stored-newest, stored-become}
-use Rattle.trial.specs.Reads.{Reads, seensOf}
 use Rattle.trial.specs.Reads as reading
 use Rattle.trial.proofs.Chain.{seens-length}
 use Rattle.units.specs.declared.refusal.Refusal.the-variants.{WrongTransaction, TooManyTransactions}
 use Rattle.ledger.specs.declared.Counts.{Counts}
 use Rattle.ledger.specs.declared.Taken.{Taken}
-use Rattle.ledger.specs.declared.Check.{Check}
 use Rattle.ledger.specs.declared.Check.the-variants.{Passes, Fails}
-use Rattle.ledger.specs.Books.{Books, Sized, judgedOf, ledgerOf}
-use Rattle.ledger.specs.Take.{tidy, starts, subject, checked, place, rowsAfter, pushSeen, pushJudged, pushed, Step, settled, answered, step, takes, told, outcome}
+use Rattle.ledger.specs.Books.{Books, Sized, ledgerOf}
+use Rattle.ledger.specs.Take.{tidy, starts, checked, place, rowsAfter, settled, answered, step, takes, told, outcome}
 use Rattle.ledger.proofs.Push.{onto, seens-pushed, judged-pushed}
 
 -- a record's parts do not depend on how it is tidied, and stand before what was there

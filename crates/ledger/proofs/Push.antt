@@ -1,17 +1,17 @@
 -- A read or a verdict put behind the others in the columns.
-use Prim.Native.Nat.{ℕ, zero, suc, _+_, _-_, _<_, _≤_, min}
+use Prim.Native.Nat.{ℕ, zero, suc, _-_, _<_, _≤_, min}
 use native.Mathlib.Omega.{arith}
-use mathlib.Core.Path.{_≡_, refl, sym, _∙_, ap}
+use mathlib.Core.Path.{_≡_, refl}
 use mathlib.Core.List.{List, [], _∷_}
-use lib.ListN.{length, getD, set}
+use lib.ListN.{set}
 use lib.Seq.{set-out, getD-set-same, getD-set-other}
 use Rattle.records.specs.declared.Seen.{Seen}
 use Rattle.records.specs.declared.Judged.{Judged}
 use Rattle.records.specs.declared.Verdict.{Verdict}
 use Rattle.records.specs.declared.Verdict.the-variants.{Ok, RC, BV, FV, SV, WC}
-use Rattle.trial.specs.Reads.{Reads, reads, seenAt, seensOf, noteAt}
+use Rattle.trial.specs.Reads.{Reads, seensOf, noteAt}
 use Rattle.trial.specs.Reads as reading
-use Rattle.ledger.specs.Books.{Verdicts, Sized, verdicts, codeOf, verdictFrom, judgedAt, judgedOf, judgeAt}
+use Rattle.ledger.specs.Books.{Verdicts, Sized, verdicts, codeOf, verdictFrom, judgedOf, judgeAt}
 use Rattle.ledger.specs.Take.{pushSeen, pushJudged, pushed}
 
 -- the one that is new, if any, before the others

@@ -2,11 +2,10 @@
 use Prim.Native.Nat.{ℕ, suc, _-_, _%_, min}
 use mathlib.Core.Bool.{Bool, true, false, cond}
 use mathlib.Core.List.{List, [], _∷_}
-use lib.Dec.{eqb, leb, ltb}
+use lib.Dec.{leb, ltb}
 use Rattle.units.specs.Refusal.{numberOf}
-use Rattle.units.specs.declared.refusal.Refusal.{Refusal}
 use Rattle.units.specs.declared.refusal.Refusal.the-variants.{WrongTransaction, TooManyTransactions}
-use Rattle.records.specs.Ledger.{Ledger, Outcome, refused, went, nameOf, rowOf, isOpen, freshRow, isRecorded, changed, noted, concluded}
+use Rattle.records.specs.Ledger.{Outcome, refused, went, nameOf, rowOf, isOpen, freshRow, isRecorded, changed, noted, concluded}
 use Rattle.records.specs.declared.Record.{Record}
 use Rattle.records.specs.declared.Record.the-variants.{Start, Tune, Read, Write, Commit, Abort}
 use Rattle.records.specs.declared.Row.{Row}

@@ -1,16 +1,16 @@
 -- What the counts and the resolved line of the meaning are in terms of those that the code walks for.
-use Prim.Native.Nat.{ℕ, _+_, _-_, _≤_, _<_}
+use Prim.Native.Nat.{ℕ, _-_, _≤_, _<_}
 use native.Mathlib.Omega.{arith}
-use mathlib.Core.Path.{_≡_, refl, sym, _∙_, ap}
+use mathlib.Core.Path.{_≡_, refl, sym, _∙_}
 use mathlib.Core.Bool.{Bool, true, false, cond, _&&_}
 use mathlib.Core.List.{List, [], _∷_}
-use lib.Dec.{ltb, leb, eqb}
+use lib.Dec.{ltb, leb}
 use lib.ListN.{getD}
-use borrow.Author.Tests.{ltb-true, ltb-false, lt-ltb, le-ltb, le-leb, lt-leb, eq-eqb, ne-eqb}
+use borrow.Author.Tests.{ltb-true, ltb-false, le-ltb, le-leb, lt-leb, ne-eqb}
 use Rattle.lists.specs.Lists.{count}
-use Rattle.records.specs.Ledger.{has, nowhere, resolved, rowOf, rowsBetween, madeBetween}
+use Rattle.records.specs.Ledger.{has, nowhere, resolved, rowsBetween, madeBetween}
 use Rattle.records.specs.declared.Row.{Row}
-use Rattle.rows.specs.Table.{Table, rowAt, rowsOf, placeOf, loaded, rowsWithin, madeWithin}
+use Rattle.rows.specs.Table.{Table, rowsOf, placeOf, loaded, rowsWithin, madeWithin}
 use Rattle.rows.proofs.Count.{count-same}
 use Rattle.rows.proofs.Walk.{row-of, load-at, place-within}
 

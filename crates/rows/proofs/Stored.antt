@@ -1,10 +1,10 @@
 -- A row stored in the columns: a new one is the newest, and one at the number of a name takes the place of that name's newest row.
-use Prim.Native.Nat.{ℕ, zero, suc, _+_, _-_, _≤_, _<_}
+use Prim.Native.Nat.{ℕ, zero, suc, _-_, _≤_, _<_}
 use native.Mathlib.Omega.{arith}
-use mathlib.Core.Path.{_≡_, refl, sym, _∙_, ap}
+use mathlib.Core.Path.{_≡_, refl}
 use mathlib.Core.Bool.{Bool, true, false, cond}
-use mathlib.Core.List.{List, [], _∷_}
-use lib.ListN.{length, getD, set, length-set}
+use mathlib.Core.List.{_∷_}
+use lib.ListN.{length}
 use lib.Seq.{set-out, getD-set-same, getD-set-other}
 use Rattle.records.specs.Ledger.{become, named}
 use Rattle.records.specs.declared.Row.{Row}

@@ -156,8 +156,7 @@ pub fn has(word: u64, key: u8) -> bool
     false
 }
 
-// The versions of a key committed after one line, and at or before another: the one walk over ends and words. Its test is a leaf without
-// a branch in the loop, so that the walk can be vectorised.
+// The versions of a key committed after one line, and at or before another: the one walk over ends and words, and the judge's hot loop.
 pub fn count_within(
     ends: &[u32; limits::TRANSACTIONS],
     words: &[u64; limits::TRANSACTIONS],

@@ -1,7 +1,7 @@
 -- `add_read` meets its contract: there is room, or nothing is stored.
-use Prim.Native.Nat.{_≤_, min}
+use Prim.Native.Nat.{min}
 use native.Mathlib.Omega.{arith}
-use mathlib.Core.Path.{_≡_, refl, sym}
+use mathlib.Core.Path.{_≡_, sym}
 use Rattle.ledger.proofs.Push.{note-out}
 use borrow.Author.Needs.{needs}
 use Rattle.ledger.proofs.add_read.Statement.{statement}

@@ -1,5 +1,4 @@
 -- `is_recorded` meets its contract: an own read is by whether the key was written.
-use mathlib.Core.Path.{sym}
 use borrow.Author.Tests.{eq-eqb, ne-eqb}
 use borrow.Author.Needs.{needs}
 use Rattle.ledger.proofs.is_recorded.Statement.{statement}

@@ -1,7 +1,5 @@
 -- `note` meets its contract: the read asked for is put behind the others, or nothing is.
 use mathlib.Core.Path.{refl}
-use denote.Ref.{now}
-use Rattle.rows.specs.Table.{withVersions}
 use Rattle.ledger.proofs.Cases.{note-some, note-none}
 use borrow.Author.Needs.{needs}
 use Rattle.ledger.proofs.note.Statement.{statement}

@@ -3,8 +3,6 @@ use denote.Ref.{now}
 use Rattle.rows.specs.Table.{table}
 use Rattle.trial.specs.Reads.{reads}
 use Rattle.ledger.specs.Books.{books, verdicts}
-use mathlib.Core.Path.{_≡_, refl, ap, _∙_}
-use Rattle.ledger.specs.Take.{takes, outcome}
 use Rattle.ledger.proofs.Cases.{take-fails, take-passes}
 use Rattle.ledger.proofs.Meant.{meant, as-meant}
 use borrow.Author.Needs.{needs}

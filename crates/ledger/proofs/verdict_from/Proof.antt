@@ -1,5 +1,4 @@
 -- `verdict_from` meets its contract: a case for each number.
-use native.Mathlib.Omega.{arith}
 use mathlib.Core.Path.{sym, ap}
 use Rattle.ledger.specs.Books.{verdictFrom}
 use Rattle.ledger.proofs.Push.{verdict-past}

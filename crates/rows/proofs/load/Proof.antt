@@ -1,8 +1,6 @@
 -- `load` meets its contract: the number is 0, that of a place, or past the last.
-use Prim.Native.Nat.{_-_, suc}
+use Prim.Native.Nat.{_-_}
 use native.Mathlib.Omega.{arith}
-use denote.Ref.{now}
-use Rattle.rows.specs.Table.{table}
 use Rattle.rows.proofs.Walk.{load-none, load-at, load-past}
 use borrow.Author.Needs.{needs}
 use Rattle.rows.proofs.load.Statement.{statement}

@@ -1,5 +1,4 @@
 -- `earlier` meets its contract: the number is among the first ones, or not.
-use mathlib.Core.Path.{sym}
 use borrow.Author.Tests.{le-leb, lt-leb}
 use Rattle.trial.specs.Reads.{among}
 use Rattle.trial.proofs.earlier.Statement.{statement}

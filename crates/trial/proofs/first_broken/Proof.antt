@@ -1,8 +1,7 @@
 -- `first_broken` meets its contract: the reads walked, and those not yet walked, have the least rank.
-use Prim.Native.Nat.{ℕ, _≤_, min}
+use Prim.Native.Nat.{_≤_, min}
 use native.Mathlib.Omega.{arith}
 use mathlib.Core.Path.{_≡_, refl}
-use denote.Ref.{now}
 use Rattle.records.specs.Ledger.{chain}
 use Rattle.rows.specs.Table.{Table, withVersions, rowsOf}
 use Rattle.rows.specs.Table as table

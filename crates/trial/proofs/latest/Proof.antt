@@ -1,9 +1,8 @@
 -- `latest` meets its contract: the reads walked, and those not yet walked, have the latest line.
 use Prim.Native.Nat.{ℕ, _≤_, max}
 use native.Mathlib.Omega.{arith}
-use mathlib.Core.Path.{_≡_, _∙_}
+use mathlib.Core.Path.{_≡_}
 use mathlib.Core.List.{List}
-use denote.Ref.{now}
 use Rattle.records.specs.Ledger.{chain}
 use Rattle.trial.specs.Reads.{reads, used, seensOf}
 use Rattle.trial.specs.Trial.{latestOf}
