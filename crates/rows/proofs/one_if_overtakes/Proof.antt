@@ -1,0 +1,24 @@
+-- `one_if_overtakes` meets its contract: each test that fails makes 0.
+use borrow.Author.Tests.{lt-ltb, le-ltb, eq-eqb, ne-eqb}
+use Rattle.rows.specs.Table.{bit}
+use Rattle.rows.proofs.one_if_overtakes.Statement.{statement}
+use Rattle.rows.proofs.one_if_overtakes.Tie as tie
+
+returns : tie.Need-returns
+unfolding bit
+returns c = simp (le-ltb _ _ (c .if1 .taken))
+
+returns-2 : tie.Need-returns-2
+unfolding bit
+returns-2 c = simp (lt-ltb _ _ (c .before .if1 .left), le-ltb _ _ (c .if2 .taken))
+
+returns-3 : tie.Need-returns-3
+unfolding bit
+returns-3 c = simp (lt-ltb _ _ (c .before .before .before .if1 .left), lt-ltb _ _ (c .before .before .if2 .left), eq-eqb _ _ (c .if3 .taken))
+
+returns-4 : tie.Need-returns-4
+unfolding bit
+returns-4 c = simp (lt-ltb _ _ (c .before .before .before .if1 .left), lt-ltb _ _ (c .before .before .if2 .left), ne-eqb _ _ (c .if3 .left))
+
+pub one-if-overtakes-spec : {M : Type 1} → statement M
+one-if-overtakes-spec = tie.close (tie.spec returns returns-2 returns-3 returns-4)

@@ -1,0 +1,21 @@
+-- `version_line` meets its contract: an end that is no commit is nowhere.
+use mathlib.Core.Path.{sym, _∙_}
+use Rattle.rows.proofs.Words.{line-none, line-open, line-end}
+use borrow.Author.Needs.{needs}
+use Rattle.rows.proofs.version_line.Statement.{statement}
+use Rattle.rows.proofs.version_line.Tie as tie
+
+has-requires : tie.Need-has-requires
+has-requires c κs = search needs
+
+returns : tie.Need-returns
+returns c = let a = c .before .before .before .args in line-open (a .word) (a .key) (a .end) (c .if2 .taken)
+
+returns-2 : tie.Need-returns-2
+returns-2 c = let a = c .before .before .before .args in line-end (a .word) (a .key) (a .end) (c .before .before .before .fits .end .fits) (sym (c .before .before .has .ensures) ∙ c .before .if1 .taken) (c .if2 .left)
+
+returns-3 : tie.Need-returns-3
+returns-3 c = let a = c .before .before .args in line-none (a .word) (a .key) (a .end) (sym (c .before .has .ensures) ∙ c .if1 .left)
+
+pub version-line-spec : {M : Type 1} → statement M
+version-line-spec = tie.close (tie.spec has-requires returns returns-2 returns-3)
