@@ -1,7 +1,6 @@
 -- The outputs that document 01 writes out: of its history, and of empty input.
-use Prim.Native.Nat.{ℕ}
 use mathlib.Core.Path.{_≡_, refl}
-use mathlib.Core.List.{List, [], _∷_, _++_}
+use mathlib.Core.List.{[], _∷_, _++_}
 use Rattle.decimal.specs.Text.{spelt, decimal}
 use Rattle.records.specs.declared.Verdict.the-variants.{Ok, FV}
 use Rattle.report.specs.Report.{lineOf, judge, total, refused, verdictWord, headLine, verdictLine, verdictLines, totalLine, reportText, refusedText}

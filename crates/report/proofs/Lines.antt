@@ -58,7 +58,7 @@ word-last (suc (suc (suc zero))) h = absurd (omega arith)
 word-last (suc (suc (suc (suc zero)))) h = absurd (omega arith)
 word-last (suc (suc (suc (suc (suc n))))) h = refl
 
-verdicts-snoc : (js : List Judged) (j : Judged) → verdictLines (js ++ (j ∷ [])) ≡ verdictLines js ++ verdictLine j
+pub verdicts-snoc : (js : List Judged) (j : Judged) → verdictLines (js ++ (j ∷ [])) ≡ verdictLines js ++ verdictLine j
 unfolding verdictLines
 verdicts-snoc [] j = append-nil (verdictLine j)
 verdicts-snoc (i ∷ js) j = ap (λ (l : List ℕ). verdictLine i ++ l) (verdicts-snoc js j) ∙ sym (append-assoc (verdictLine i) (verdictLines js) (verdictLine j))

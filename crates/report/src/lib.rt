@@ -25,7 +25,7 @@ const SPACE: u8 = b' ';
 const NEWLINE: u8 = b'\n';
 
 // Room for any report: 17 bytes for its head, 14 for each of 512 verdicts, 50 for its totals.
-const LONGEST: usize = 7235;
+pub const LONGEST: usize = 7235;
 
 // Room for any refusal: 8 bytes for its word, 11 for each number.
 const LONGEST_REFUSED: usize = 30;

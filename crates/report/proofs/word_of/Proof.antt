@@ -1,6 +1,5 @@
 -- `word_of` meets its contract, a verdict at a time.
 use native.Mathlib.Omega.{arith}
-use mathlib.Core.Path.{sym, ap}
 use Rattle.report.specs.Report.{verdictAt, verdictWord}
 use Rattle.report.proofs.Lines.{word-at, word-last}
 use Rattle.report.proofs.word_of.Statement.{statement}
