@@ -1,0 +1,74 @@
+-- What the judge prints, as text. Document 01: "prints lines with one space between fields: `judge` and the number of committed
+-- transactions; for each, in order of commit lines, its number and `ok` or the rule; last `total` with the numbers started, committed,
+-- aborted and still open. On a refusal it prints only `refused`, the number and the line".
+use Prim.Native.Nat.{ℕ, zero, suc}
+use mathlib.Core.List.{List, [], _∷_, _++_}
+use lib.ListN.{length, getD}
+use Rattle.decimal.specs.Text.{decimal}
+use Rattle.records.specs.declared.Judged.{Judged}
+use Rattle.records.specs.declared.Totals.{Totals}
+use Rattle.records.specs.declared.Verdict.{Verdict}
+use Rattle.records.specs.declared.Verdict.the-variants.{Ok, RC, BV, FV, SV, WC}
+
+-- the line of a field and those behind it: 32 is the space, 10 the newline
+unfoldable pub lineOf : List ℕ → List (List ℕ) → List ℕ
+lineOf f [] = f ++ (10 ∷ [])
+lineOf f (g ∷ gs) = f ++ (32 ∷ []) ++ lineOf g gs
+
+-- `judge`, `total`, `refused`
+abbrev pub judge : List ℕ
+judge = 106 ∷ 117 ∷ 100 ∷ 103 ∷ 101 ∷ []
+
+abbrev pub total : List ℕ
+total = 116 ∷ 111 ∷ 116 ∷ 97 ∷ 108 ∷ []
+
+abbrev pub refused : List ℕ
+refused = 114 ∷ 101 ∷ 102 ∷ 117 ∷ 115 ∷ 101 ∷ 100 ∷ []
+
+-- `ok` or the rule
+unfoldable pub verdictWord : Verdict → List ℕ
+verdictWord Ok = 111 ∷ 107 ∷ []
+verdictWord RC = 82 ∷ 67 ∷ []
+verdictWord BV = 66 ∷ 86 ∷ []
+verdictWord FV = 70 ∷ 86 ∷ []
+verdictWord SV = 83 ∷ 86 ∷ []
+verdictWord WC = 87 ∷ 67 ∷ []
+
+unfoldable pub headLine : ℕ → List ℕ
+headLine n = lineOf judge (decimal n ∷ [])
+
+unfoldable pub verdictLine : Judged → List ℕ
+verdictLine j = lineOf (decimal (j .name)) (verdictWord (j .verdict) ∷ [])
+
+unfoldable pub verdictLines : List Judged → List ℕ
+verdictLines [] = []
+verdictLines (j ∷ js) = verdictLine j ++ verdictLines js
+
+unfoldable pub totalLine : Totals → List ℕ
+totalLine t = lineOf total (decimal (t .started) ∷ decimal (t .committed) ∷ decimal (t .aborted) ∷ decimal (t .«open») ∷ [])
+
+-- the verdicts in order of commit lines
+unfoldable pub reportText : List Judged → Totals → List ℕ
+reportText js t = headLine (length js) ++ verdictLines js ++ totalLine t
+
+unfoldable pub refusedText : ℕ → ℕ → List ℕ
+refusedText number line = lineOf refused (decimal number ∷ decimal line ∷ [])
+
+-- ---- the verdicts in two columns
+
+-- a verdict by its place in the order ok, RC, BV, FV, SV, WC; a number past them is the last
+unfoldable pub verdictAt : ℕ → Verdict
+verdictAt zero = Ok
+verdictAt (suc zero) = RC
+verdictAt (suc (suc zero)) = BV
+verdictAt (suc (suc (suc zero))) = FV
+verdictAt (suc (suc (suc (suc zero)))) = SV
+verdictAt (suc (suc (suc (suc (suc n))))) = WC
+
+abbrev pub judged : ℕ → ℕ → Judged
+judged name code = record { name = name; verdict = verdictAt code }
+
+-- the first n verdicts, the oldest first
+unfoldable pub judgedList : List ℕ → List ℕ → ℕ → List Judged
+judgedList names codes zero = []
+judgedList names codes (suc n) = judgedList names codes n ++ (judged (getD names n 0) (getD codes n 0) ∷ [])
