@@ -1,0 +1,59 @@
+-- Document 01's edges, by computation: each line's numbers at the ends of their ranges and just past them, what is not of the form, and
+-- the worked history.
+use Prim.Native.Nat.{ℕ}
+use mathlib.Core.Path.{_≡_, refl}
+use mathlib.Core.List.{List, [], _∷_}
+use Rattle.decimal.specs.Text.{isDigit, spelt, decimal}
+use Rattle.decimal.specs.Read.{more, digits, unsigned, negative, fieldAt, asNatural, naturalAt}
+use Rattle.units.specs.Bounds.{triple}
+use Rattle.records.specs.declared.Record.the-variants.{Start, Tune, Read, Write, Commit, Abort}
+use Rattle.history.specs.declared.Line.the-variants.{Taken, Bad, End}
+use Rattle.history.specs.Line.{numberAt, onNumber, ended, tuneAt, readAt, writeAt, behindName, lineAt}
+use Rattle.history.specs.Text.{textOf}
+use Rattle.history.specs.Records.{whole, behind, onLine, recordsFrom, recordsOf}
+
+pub ranges :
+    (lineAt (textOf (Start 0)) 0 ≡ Bad)
+    × (lineAt (textOf (Start 1)) 0 ≡ Taken (Start 1) 4)
+    × (lineAt (textOf (Start 4294967295)) 0 ≡ Taken (Start 4294967295) 13)
+    × (lineAt (textOf (Start 4294967296)) 0 ≡ Bad)
+    × (lineAt (textOf (Tune 1 (triple 0 0 0))) 0 ≡ Bad)
+    × (lineAt (textOf (Tune 1 (triple 1 0 65535))) 0 ≡ Taken (Tune 1 (triple 1 0 65535)) 14)
+    × (lineAt (textOf (Tune 1 (triple 65536 0 0))) 0 ≡ Bad)
+    × (lineAt (textOf (Tune 1 (triple 1 65536 0))) 0 ≡ Bad)
+    × (lineAt (textOf (Tune 1 (triple 1 0 65536))) 0 ≡ Bad)
+    × (lineAt (textOf (Read 1 63 0)) 0 ≡ Taken (Read 1 63 0) 9)
+    × (lineAt (textOf (Read 1 64 0)) 0 ≡ Bad)
+    × (lineAt (textOf (Read 1 0 4294967295)) 0 ≡ Taken (Read 1 0 4294967295) 17)
+    × (lineAt (textOf (Read 1 0 4294967296)) 0 ≡ Bad)
+    × (lineAt (textOf (Write 1 63)) 0 ≡ Taken (Write 1 63) 7)
+    × (lineAt (textOf (Write 1 64)) 0 ≡ Bad)
+    × (lineAt (textOf (Commit 0)) 0 ≡ Bad)
+    × (lineAt (textOf (Abort 0)) 0 ≡ Bad)
+unfolding lineAt behindName tuneAt readAt writeAt ended onNumber numberAt naturalAt asNatural fieldAt digits more unsigned negative decimal spelt isDigit textOf
+ranges = (refl, refl, refl, refl, refl, refl, refl, refl, refl, refl, refl, refl, refl, refl, refl, refl, refl)
+
+-- the empty text, an empty line, `c 1` unended, with two tabs, with a space for the tab, with a leading zero, with a tab behind it, with a
+-- number behind it; `w 1` with no key; an unknown letter
+pub forms :
+    (lineAt [] 0 ≡ End)
+    × (lineAt (10 ∷ []) 0 ≡ Bad)
+    × (lineAt (99 ∷ 9 ∷ 49 ∷ []) 0 ≡ Bad)
+    × (lineAt (99 ∷ 9 ∷ 9 ∷ 49 ∷ 10 ∷ []) 0 ≡ Bad)
+    × (lineAt (99 ∷ 32 ∷ 49 ∷ 10 ∷ []) 0 ≡ Bad)
+    × (lineAt (99 ∷ 9 ∷ 48 ∷ 49 ∷ 10 ∷ []) 0 ≡ Bad)
+    × (lineAt (99 ∷ 9 ∷ 49 ∷ 9 ∷ 10 ∷ []) 0 ≡ Bad)
+    × (lineAt (99 ∷ 9 ∷ 49 ∷ 9 ∷ 49 ∷ 10 ∷ []) 0 ≡ Bad)
+    × (lineAt (119 ∷ 9 ∷ 49 ∷ 10 ∷ []) 0 ≡ Bad)
+    × (lineAt (120 ∷ 9 ∷ 49 ∷ 10 ∷ []) 0 ≡ Bad)
+unfolding lineAt behindName tuneAt readAt writeAt ended onNumber numberAt naturalAt asNatural fieldAt digits more unsigned negative isDigit
+forms = (refl, refl, refl, refl, refl, refl, refl, refl, refl, refl)
+
+-- `s 1`, `s 2`, `w 1 5`, `c 1`, `r 2 5 1`, `c 2`
+abbrev worked : List ℕ
+worked =
+    115 ∷ 9 ∷ 49 ∷ 10 ∷ 115 ∷ 9 ∷ 50 ∷ 10 ∷ 119 ∷ 9 ∷ 49 ∷ 9 ∷ 53 ∷ 10 ∷ 99 ∷ 9 ∷ 49 ∷ 10 ∷ 114 ∷ 9 ∷ 50 ∷ 9 ∷ 53 ∷ 9 ∷ 49 ∷ 10 ∷ 99 ∷ 9 ∷ 50 ∷ 10 ∷ []
+
+pub worked-records : recordsOf worked ≡ whole (Start 1 ∷ Start 2 ∷ Write 1 5 ∷ Commit 1 ∷ Read 2 5 1 ∷ Commit 2 ∷ [])
+unfolding recordsFrom behind onLine lineAt behindName tuneAt readAt writeAt ended onNumber numberAt naturalAt asNatural fieldAt digits more unsigned negative isDigit
+worked-records = refl

@@ -1,0 +1,25 @@
+// The judge reads a history line by line from a place that it remembers: document 01, "What form each place takes". A reader holds the
+// lent history and the place. The borrow checker covers no function over such a struct, so the two here are proved by hand, and the work
+// is history::line_at's. Whoever calls next_line needs no such proof.
+ghost use mathlib.Core.Path.{_≡_};
+ghost use Rattle.history.specs.Line.{lineAt};
+use history::Line;
+use history::line_at;
+
+pub struct Reader<'a> {
+    pub text: &'a [u8],
+    pub at: usize,
+}
+
+// The line at the reader's place. The place of the next one is in the answer.
+pub fn read_line<'a>(r: Reader<'a>) -> Line
+    ensures { λ l. ⌜ l ≡ lineAt (now (r .entry .text)) (r .entry .at) ⌝ }
+{
+    line_at(r.text, r.at)
+}
+
+pub fn next_line(text: &[u8], at: usize) -> Line
+    ensures { λ l. ⌜ l ≡ lineAt (now (text .entry)) at ⌝ }
+{
+    read_line(Reader { text, at })
+}
