@@ -4,6 +4,7 @@ use native.Mathlib.Omega.{arith}
 use mathlib.Core.Path.{_≡_, refl, _∙_, ap}
 use mathlib.Core.Bool.{Bool, true, false, cond, false≢true}
 use mathlib.Core.List.{List, [], _∷_}
+use mathlib.Core.Logic.{_⊎_, inl, inr}
 use lib.Dec.{leb, ltb}
 use borrow.Author.Tests.{leb-false}
 use Rattle.lists.specs.Lists.{any}
@@ -24,8 +25,8 @@ use Rattle.units.specs.declared.refusal.Refusal.the-variants.{WrongTransaction,
 use Rattle.ledger.specs.declared.Counts.{Counts}
 use Rattle.ledger.specs.declared.Taken.{Taken}
 use Rattle.ledger.specs.declared.Check.the-variants.{Passes, Fails}
-use Rattle.ledger.specs.Books.{Books, Sized, ledgerOf}
-use Rattle.ledger.specs.Take.{tidy, starts, checked, place, rowsAfter, settled, answered, step, takes, told, outcome}
+use Rattle.ledger.specs.Books.{Books, Sized, judgedOf, ledgerOf}
+use Rattle.ledger.specs.Take.{tidy, starts, checked, pushJudged, pushed, place, rowsAfter, settled, answered, step, takes, told, outcome}
 use Rattle.ledger.proofs.Push.{onto, seens-pushed, judged-pushed}
 
 -- a record's parts do not depend on how it is tidied, and stand before what was there
@@ -59,15 +60,22 @@ concluded-onto line rows ss (Write t x) r js = refl
 concluded-onto line rows ss (Commit t) r js = refl
 concluded-onto line rows ss (Abort t) r js = refl
 
-module _ (k : Counts) (b : Books) (line : ℕ) (zt : table.Sized (b .table)) (zs : reading.Sized (b .reads)) (zv : Sized (b .verdicts)) (hs : k .seens < 4096) (hj : k .judged < 512) where
+module _ (k : Counts) (b : Books) (line : ℕ) (zt : table.Sized (b .table)) (zs : reading.Sized (b .reads)) (zv : Sized (b .verdicts)) (hs : k .seens < 4096) where
+  -- nothing is concluded, or there is room for a verdict
+  judged-room : (js : List Judged) → (js ≡ []) ⊎ (k .judged < 512)
+      → judgedOf (pushJudged (b .verdicts) (min (k .judged) 512) js) (min (pushed 512 (min (k .judged) 512) js) 512) ≡ onto js (judgedOf (b .verdicts) (min (k .judged) 512))
+  unfolding pushJudged pushed onto
+  judged-room js (inl e) = rw e (ap (judgedOf (b .verdicts)) (omega arith))
+  judged-room js (inr h) = judged-pushed (b .verdicts) zv (min (k .judged) 512) (omega arith) js
+
   -- the ledger after a record that passes, given its rows
-  ledger-after : (e : Record) (number : ℕ) (r : Row) (rows : List Row)
+  ledger-after : (e : Record) (number : ℕ) (r : Row) (rows : List Row) → (concluded line (ledgerOf k b .rows) (ledgerOf k b .seens) e r [] ≡ []) ⊎ (k .judged < 512)
       → rowsOf (stored (b .table) (place e (min (k .rows) 512) number) (changed line (min (k .seens) 4096) (tidy e) r)) (min (rowsAfter e (min (k .rows) 512)) 512) ≡ rows
       → outcome (settled k b line e number r) ≡ went (record { rows = rows; seens = noted (ledgerOf k b .rows) (tidy e) r (ledgerOf k b .seens); judged = concluded line (ledgerOf k b .rows) (ledgerOf k b .seens) (tidy e) r (ledgerOf k b .judged) })
   unfolding settled
-  ledger-after e number r rows h =
+  ledger-after e number r rows room h =
       rw
-      (h, seens-pushed (b .reads) zs (min (k .seens) 4096) (omega arith) (noted (ledgerOf k b .rows) e r []), judged-pushed (b .verdicts) zv (min (k .judged) 512) (omega arith) (concluded line (ledgerOf k b .rows) (ledgerOf k b .seens) e r []), noted-onto (ledgerOf k b .rows) e r (ledgerOf k b .seens), concluded-onto line (ledgerOf k b .rows) (ledgerOf k b .seens) e r (ledgerOf k b .judged))
+      (h, seens-pushed (b .reads) zs (min (k .seens) 4096) (omega arith) (noted (ledgerOf k b .rows) e r []), judged-room (concluded line (ledgerOf k b .rows) (ledgerOf k b .seens) e r []) room, noted-onto (ledgerOf k b .rows) e r (ledgerOf k b .seens), concluded-onto line (ledgerOf k b .rows) (ledgerOf k b .seens) e r (ledgerOf k b .judged))
 
   -- a row that is open has a number
   numbered : (p : ℕ) → isOpen (loaded (b .table) p) ≡ true → 0 < p
@@ -87,11 +95,11 @@ module _ (k : Counts) (b : Books) (line : ℕ) (zt : table.Sized (b .table)) (zs
       go false true e = refl
       go false false e =
           let n : min (suc (min (k .rows) 512)) 512 ≡ suc (min (k .rows) 512) = omega (arith, leb-false 512 (min (k .rows) 512) e) in
-          ledger-after (Start t) (placeOf (rowsOf (b .table) (min (k .rows) 512)) t) (freshRow line t) (freshRow line t ∷ rowsOf (b .table) (min (k .rows) 512))
+          ledger-after (Start t) (placeOf (rowsOf (b .table) (min (k .rows) 512)) t) (freshRow line t) (freshRow line t ∷ rowsOf (b .table) (min (k .rows) 512)) (inl refl)
           (rw n (stored-newest (b .table) zt (min (k .rows) 512) (freshRow line t) (omega (arith, leb-false 512 (min (k .rows) 512) e))))
 
-  -- any other record
-  module _ (e : Record) (h : starts e ≡ false) where
+  -- any other record; where its row is open there is room for a verdict
+  module _ (e : Record) (h : starts e ≡ false) (hj : isOpen (rowOf (ledgerOf k b .rows) (nameOf e)) ≡ true → k .judged < 512) where
     abbrev row : Row
     row = rowOf (rowsOf (b .table) (min (k .rows) 512)) (nameOf e)
 
@@ -113,20 +121,20 @@ module _ (k : Counts) (b : Books) (line : ℕ) (zt : table.Sized (b .table)) (zs
         go : (o : Bool) → isOpen row ≡ o
             → outcome (answered (cond o Passes (Fails WrongTransaction)) b (settled k b line e number row))
             ≡ cond o (went (record { rows = become (rowsOf (b .table) (min (k .rows) 512)) (nameOf e) (changed line (min (k .seens) 4096) (tidy e) row); seens = noted (ledgerOf k b .rows) (tidy e) row (ledgerOf k b .seens); judged = concluded line (ledgerOf k b .rows) (ledgerOf k b .seens) (tidy e) row (ledgerOf k b .judged) })) (refused 15)
-        go true o = ledger-after e number row _ (moves-rows o)
+        go true o = ledger-after e number row _ (inr (hj o)) (moves-rows o)
         go false o = refl
 
-  pub meant : (e : Record) → outcome (takes k b line e) ≡ meaning.step line (tidy e) (ledgerOf k b)
+  pub meant : (e : Record) → (isOpen (rowOf (ledgerOf k b .rows) (nameOf e)) ≡ true → k .judged < 512) → outcome (takes k b line e) ≡ meaning.step line (tidy e) (ledgerOf k b)
   unfolding meaning.step
-  meant (Start t) = begins t
-  meant (Tune t c) = moves (Tune t c) refl
-  meant (Read t x w) = moves (Read t x w) refl
-  meant (Write t x) = moves (Write t x) refl
-  meant (Commit t) = moves (Commit t) refl
-  meant (Abort t) = moves (Abort t) refl
+  meant (Start t) hj = begins t
+  meant (Tune t c) hj = moves (Tune t c) refl hj
+  meant (Read t x w) hj = moves (Read t x w) refl hj
+  meant (Write t x) hj = moves (Write t x) refl hj
+  meant (Commit t) hj = moves (Commit t) refl hj
+  meant (Abort t) hj = moves (Abort t) refl hj
 
 -- the two promises of a step from the first
 pub as-meant : (k : Counts) (b : Books) (line : ℕ) (e : Record) → table.Sized (b .table) → reading.Sized (b .reads) → Sized (b .verdicts) → (r : Taken) (c : Books)
     → step r c ≡ takes k b line e
-    → (step r c ≡ takes k b line e) × (k .seens < 4096 → k .judged < 512 → told r c ≡ meaning.step line (tidy e) (ledgerOf k b))
-as-meant k b line e zt zs zv r c h = (h, λ hs hj. ap outcome h ∙ meant k b line zt zs zv hs hj e)
+    → (step r c ≡ takes k b line e) × (k .seens < 4096 → (isOpen (rowOf (ledgerOf k b .rows) (nameOf e)) ≡ true → k .judged < 512) → told r c ≡ meaning.step line (tidy e) (ledgerOf k b))
+as-meant k b line e zt zs zv r c h = (h, λ hs hj. ap outcome h ∙ meant k b line zt zs zv hs e hj)

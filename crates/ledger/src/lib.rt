@@ -4,7 +4,8 @@ ghost use Prim.Native.Nat.{suc, _<_, _%_, min};
 ghost use mathlib.Core.List.{[]};
 ghost use mathlib.Core.Path.{_≡_};
 ghost use lib.ListN.{set};
-ghost use Rattle.records.specs.Ledger.{nameOf, freshRow, isRecorded, withEnd, changed, noted, concluded};
+ghost use mathlib.Core.Bool.{true};
+ghost use Rattle.records.specs.Ledger.{nameOf, rowOf, isOpen, freshRow, isRecorded, withEnd, changed, noted, concluded};
 ghost use Rattle.records.specs.Ledger as meaning;
 ghost use Rattle.rows.specs.Table.{Table, table, withNames, withVersions, rowsOf};
 ghost use Rattle.trial.specs.Reads.{reads, seensOf, noteAt};
@@ -65,7 +66,7 @@ pub fn take(
     e: Record,
 ) -> Taken
     ensures exact { λ r. ⌜ step r (books (table (now (names .exit)) (now (starts .exit)) (now (ends .exit)) (now (words .exit)) (now (k1s .exit)) (now (k2s .exit)) (now (k3s .exit)) (now (lasts .exit))) (reads (now («seen_keys» .exit)) (now («seen_lines» .exit)) (now («seen_befores» .exit))) (verdicts (now («judged_names» .exit)) (now («judged_verdicts» .exit)))) ≡ takes counts (books (table (now (names .entry)) (now (starts .entry)) (now (ends .entry)) (now (words .entry)) (now (k1s .entry)) (now (k2s .entry)) (now (k3s .entry)) (now (lasts .entry))) (reads (now («seen_keys» .entry)) (now («seen_lines» .entry)) (now («seen_befores» .entry))) (verdicts (now («judged_names» .entry)) (now («judged_verdicts» .entry)))) line e ⌝ }
-    ensures meant { λ r. ⌜ (counts .seens < 4096 → counts .judged < 512 → told r (books (table (now (names .exit)) (now (starts .exit)) (now (ends .exit)) (now (words .exit)) (now (k1s .exit)) (now (k2s .exit)) (now (k3s .exit)) (now (lasts .exit))) (reads (now («seen_keys» .exit)) (now («seen_lines» .exit)) (now («seen_befores» .exit))) (verdicts (now («judged_names» .exit)) (now («judged_verdicts» .exit)))) ≡ meaning.step line (tidy e) (ledgerOf counts (books (table (now (names .entry)) (now (starts .entry)) (now (ends .entry)) (now (words .entry)) (now (k1s .entry)) (now (k2s .entry)) (now (k3s .entry)) (now (lasts .entry))) (reads (now («seen_keys» .entry)) (now («seen_lines» .entry)) (now («seen_befores» .entry))) (verdicts (now («judged_names» .entry)) (now («judged_verdicts» .entry)))))) ⌝ }
+    ensures meant { λ r. ⌜ (counts .seens < 4096 → (isOpen (rowOf (ledgerOf counts (books (table (now (names .entry)) (now (starts .entry)) (now (ends .entry)) (now (words .entry)) (now (k1s .entry)) (now (k2s .entry)) (now (k3s .entry)) (now (lasts .entry))) (reads (now («seen_keys» .entry)) (now («seen_lines» .entry)) (now («seen_befores» .entry))) (verdicts (now («judged_names» .entry)) (now («judged_verdicts» .entry)))) .rows) (nameOf e)) ≡ true → counts .judged < 512) → told r (books (table (now (names .exit)) (now (starts .exit)) (now (ends .exit)) (now (words .exit)) (now (k1s .exit)) (now (k2s .exit)) (now (k3s .exit)) (now (lasts .exit))) (reads (now («seen_keys» .exit)) (now («seen_lines» .exit)) (now («seen_befores» .exit))) (verdicts (now («judged_names» .exit)) (now («judged_verdicts» .exit)))) ≡ meaning.step line (tidy e) (ledgerOf counts (books (table (now (names .entry)) (now (starts .entry)) (now (ends .entry)) (now (words .entry)) (now (k1s .entry)) (now (k2s .entry)) (now (k3s .entry)) (now (lasts .entry))) (reads (now («seen_keys» .entry)) (now («seen_lines» .entry)) (now («seen_befores» .entry))) (verdicts (now («judged_names» .entry)) (now («judged_verdicts» .entry)))))) ⌝ }
 {
     sized(names, starts, ends, words, k1s, k2s, k3s, lasts);
     sized_reads(seen_keys, seen_lines, seen_befores);
