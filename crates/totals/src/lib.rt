@@ -1,12 +1,14 @@
 // The totals of a written history, raised one line at a time. A struct of four counters is lent by &mut to one small function for each
-// record that moves them: document 01, "What form each place takes". Those three are proved by hand, since the borrow checker covers no
-// function over a struct behind a reference; the work is done by value, and whoever calls raise needs no such proof.
+// record that moves them: document 01, "What form each place takes". The borrow checker covers no function over a struct behind a
+// reference, so those three, and the three that lend a local to them, are proved by hand. They hold no arithmetic: that is done by value.
+// Whoever calls raise needs no such proof.
 ghost use Prim.Native.Nat.{_+_, _-_, min};
 ghost use mathlib.Core.Path.{_≡_};
 ghost use Rattle.records.specs.Totals.{raiseStarted, raiseCommitted, raiseAborted, raised};
 use records::Record;
 use records::Totals;
 
+// The largest number of 32 bits.
 const LAST: u32 = 4294967295;
 
 // The totals after a record.
