@@ -28,9 +28,9 @@ use units::limits;
 // The longest line that can be a step, with its newline.
 const LINE: usize = 401;
 
-const INPUT: usize = 65536;
+const INPUT: usize = 4096;
 
-const OUTPUT: usize = 65536;
+const OUTPUT: usize = 8192;
 // No reply is longer than a message line.
 const REPLY: usize = 512;
 

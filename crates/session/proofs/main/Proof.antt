@@ -10,7 +10,7 @@ use Rattle.session.proofs.main.Tie as tie
 
 abbrev Inv-loop : tie.InvT-loop
 Inv-loop keys₀ ordinals₀ stamps₀ values₀ line₀ out₀ p₀ turns₀ more₀ keys ordinals stamps values line out p turns more =
-    (length line ≡ 401) × (length out ≡ 65536)
+    (length line ≡ 401) × (length out ≡ 8192)
 
 abbrev μ-loop : tie.MeasureT-loop
 μ-loop keys₀ ordinals₀ stamps₀ values₀ line₀ out₀ p₀ turns₀ more₀ keys ordinals stamps values line out p turns more =
