@@ -1,6 +1,6 @@
 -- A history is read whole exactly if it is the texts of its records, one behind the other, each of the form; and what stands before the
 -- line that stops the reading.
-use Prim.Native.Nat.{ℕ, zero, suc, _+_, _≤_, _<_}
+use Prim.Native.Nat.{ℕ, zero, suc, _+_, _≤_}
 use native.Mathlib.Omega.{arith}
 use mathlib.Core.Path.{_≡_, refl, sym, ap, _∙_, subst}
 use mathlib.Core.Logic.{_↔_}
@@ -16,7 +16,7 @@ use Rattle.history.specs.declared.Line.{Line}
 use Rattle.history.specs.declared.Line.the-variants.{Taken, Bad, End}
 use Rattle.history.specs.Line.{lineAt}
 use Rattle.history.specs.Text.{textOf, InForm, Written}
-use Rattle.history.specs.Records.{History, whole, oneTooMany, notOfForm, behind, onLine, recordsFrom, recordsOf, texts}
+use Rattle.history.specs.Records.{History, whole, oneTooMany, notOfForm, behind, onLine, recordsFrom, recordsOf, texts, ReadWhole, Before, NotOfForm, OneTooMany}
 use Rattle.history.proofs.Reading.{line-reads, line-back, end-exactly}
 
 not-whole : {A : Type 0} {line : ℕ} {rs : List Record} → notOfForm line ≡ whole rs → A
@@ -25,45 +25,39 @@ not-whole q = let z : _≡_ {A = ℕ} 0 1 = cc in absurd (omega arith)
 too-many : {A : Type 0} {line : ℕ} {rs : List Record} → oneTooMany line ≡ whole rs → A
 too-many q = let z : _≡_ {A = ℕ} 0 1 = cc in absurd (omega arith)
 
--- rs are the records of s from a place on, and at most `left`
-pub record Read (left : ℕ) (s : List ℕ) (at : ℕ) (rs : List Record) : Type 0 where
-  pub text : drop at s ≡ texts rs
-  pub form : Every InForm rs
-  pub few : length rs ≤ left
-
-nothing-read : (left : ℕ) (s : List ℕ) (at : ℕ) (rs : List Record) → length s ≤ at → whole [] ≡ whole rs → Read left s at rs
+nothing-read : (left : ℕ) (s : List ℕ) (at : ℕ) (rs : List Record) → length s ≤ at → whole [] ≡ whole rs → ReadWhole left s at rs
 unfolding texts
 nothing-read left s at rs h q =
     let e : [] ≡ rs = cc in
-    subst (Read left s at) e (record { text = drop-of-length-le s h; form = none; few = omega arith })
+    subst (ReadWhole left s at) e (record { text = drop-of-length-le s h; form = none; few = omega arith })
 
 one-read : (left : ℕ) (s : List ℕ) (at : ℕ) (r : Record) (e : ℕ) (h : History) (rs : List Record) → Written s at r e
-    → ((qs : List Record) → h ≡ whole qs → Read left s e qs) → behind r h ≡ whole rs → Read (suc left) s at rs
+    → ((qs : List Record) → h ≡ whole qs → ReadWhole left s e qs) → behind r h ≡ whole rs → ReadWhole (suc left) s at rs
 unfolding behind texts
 one-read left s at r e (oneTooMany line) rs w k q = too-many q
 one-read left s at r e (notOfForm line) rs w k q = not-whole q
 one-read left s at r e (whole qs) rs w k q =
-    let more : Read left s e qs = k qs refl in
+    let more : ReadWhole left s e qs = k qs refl in
     let same : r ∷ qs ≡ rs = cc in
-    subst (Read (suc left) s at) same
+    subst (ReadWhole (suc left) s at) same
     (record { text = w .stands .here ∙ ap (λ (l : List ℕ). textOf r ++ l) (more .text); form = also (w .form) (more .form); few = omega (arith, more .few) })
 
-pub records-read : (left : ℕ) (s : List ℕ) (at line : ℕ) (rs : List Record) → recordsFrom left s at line ≡ whole rs → Read left s at rs
+pub records-read : (left : ℕ) (s : List ℕ) (at line : ℕ) (rs : List Record) → recordsFrom left s at line ≡ whole rs → ReadWhole left s at rs
 unfolding recordsFrom onLine
 records-read zero s at line rs q = go (leb (length s) at) refl q
   where
-    go : (t : Bool) → leb (length s) at ≡ t → cond t (whole []) (oneTooMany line) ≡ whole rs → Read 0 s at rs
+    go : (t : Bool) → leb (length s) at ≡ t → cond t (whole []) (oneTooMany line) ≡ whole rs → ReadWhole 0 s at rs
     go true h q = nothing-read 0 s at rs (leb-true (length s) at h) q
     go false h q = too-many q
 records-read (suc left) s at line rs q = go (lineAt s at) refl (λ e. records-read left s e (line + 1)) q
   where
-    go : (l : Line) → lineAt s at ≡ l → ((e : ℕ) (qs : List Record) → recordsFrom left s e (line + 1) ≡ whole qs → Read left s e qs)
-        → onLine l (λ r e. behind r (recordsFrom left s e (line + 1))) line ≡ whole rs → Read (suc left) s at rs
+    go : (l : Line) → lineAt s at ≡ l → ((e : ℕ) (qs : List Record) → recordsFrom left s e (line + 1) ≡ whole qs → ReadWhole left s e qs)
+        → onLine l (λ r e. behind r (recordsFrom left s e (line + 1))) line ≡ whole rs → ReadWhole (suc left) s at rs
     go (Taken r e) h k q = one-read left s at r e (recordsFrom left s e (line + 1)) rs (line-reads s at h) (k e) q
     go Bad h k q = not-whole q
     go End h k q = nothing-read (suc left) s at rs (end-exactly s at .0 h) q
 
-pub records-back : (left : ℕ) (s : List ℕ) (at line : ℕ) (rs : List Record) → Read left s at rs → recordsFrom left s at line ≡ whole rs
+pub records-back : (left : ℕ) (s : List ℕ) (at line : ℕ) (rs : List Record) → ReadWhole left s at rs → recordsFrom left s at line ≡ whole rs
 unfolding recordsFrom onLine behind texts
 records-back left s at line rs h = go left at line rs (h .text) (h .form) (h .few)
   where
@@ -78,20 +72,13 @@ records-back left s at line rs h = go left at line rs (h .text) (h .form) (h .fe
         rw (line-back s at r (texts rs) e f, go left (at + length (textOf r)) (line + 1) rs (after s (textOf r) (texts rs) at e) fs (omega arith))
 
 -- a history is the texts of its records, in order; and no other text is read as them
-pub whole-exactly : (s : List ℕ) (rs : List Record) → (recordsOf s ≡ whole rs) ↔ Read 4096 s 0 rs
+pub whole-exactly : (s : List ℕ) (rs : List Record) → (recordsOf s ≡ whole rs) ↔ ReadWhole 4096 s 0 rs
 whole-exactly s rs = (records-read 4096 s 0 1 rs, records-back 4096 s 0 1 rs)
 
 pub whole-text : (s : List ℕ) (rs : List Record) → recordsOf s ≡ whole rs → s ≡ texts rs
 whole-text s rs q = records-read 4096 s 0 1 rs q .text
 
 -- ---- a line that stops the reading
-
--- the lines before line l are the texts of records of the form, and line l begins at e
-pub record Before (s : List ℕ) (at line l e : ℕ) : Type 0 where
-  pub rs : List Record
-  pub text : drop at s ≡ texts rs ++ drop e s
-  pub form : Every InForm rs
-  pub count : l ≡ line + length rs
 
 none-before : (s : List ℕ) (at line l : ℕ) → line ≡ l → Before s at line l at
 unfolding texts
@@ -106,12 +93,6 @@ one-before s at line l e {r} w b =
       form = also (w .form) (b .form);
       count = omega (arith, b .count);
     }
-
--- line l is not of the form, or unended
-pub record NotOfForm (s : List ℕ) (at line l : ℕ) : Type 0 where
-  pub e : ℕ
-  pub before : Before s at line l e
-  pub bad : lineAt s e ≡ Bad
 
 behind-bad : (r : Record) (h : History) (l : ℕ) → behind r h ≡ notOfForm l → h ≡ notOfForm l
 unfolding behind
@@ -137,13 +118,6 @@ records-bad (suc left) s at line l q = go (lineAt s at) refl (λ e. records-bad 
         let same : line ≡ l = cc in
         record { e = at; before = none-before s at line l same; bad = h }
     go End h k q = let z : _≡_ {A = ℕ} 0 1 = cc in absurd (omega arith)
-
--- line l is one more than was allowed
-pub record OneTooMany (left : ℕ) (s : List ℕ) (at line l : ℕ) : Type 0 where
-  pub e : ℕ
-  pub before : Before s at line l e
-  pub many : l ≡ line + left
-  pub more : e < length s
 
 behind-many : (r : Record) (h : History) (l : ℕ) → behind r h ≡ oneTooMany l → h ≡ oneTooMany l
 unfolding behind

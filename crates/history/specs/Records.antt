@@ -1,14 +1,16 @@
 -- A whole history as its records, in line order.
-use Prim.Native.Nat.{ℕ, zero, suc, _+_}
+use Prim.Native.Nat.{ℕ, zero, suc, _+_, _≤_, _<_}
+use mathlib.Core.Path.{_≡_}
 use mathlib.Core.Bool.{cond}
 use mathlib.Core.List.{List, [], _∷_, _++_}
 use lib.Dec.{leb}
-use lib.ListN.{length}
+use lib.ListN.{length, drop}
+use Rattle.lists.specs.Lists.{Every}
 use Rattle.records.specs.declared.Record.{Record}
 use Rattle.history.specs.declared.Line.{Line}
 use Rattle.history.specs.declared.Line.the-variants.{Taken, Bad, End}
 use Rattle.history.specs.Line.{lineAt}
-use Rattle.history.specs.Text.{textOf}
+use Rattle.history.specs.Text.{textOf, InForm}
 
 -- the records, or the line, counted from 1, that is one too many (14), or not of the form or unended (13)
 pub data History : Type 0 where
@@ -39,3 +41,31 @@ recordsOf s = recordsFrom 4096 s 0 1
 unfoldable pub texts : List Record → List ℕ
 texts [] = []
 texts (r ∷ rs) = textOf r ++ texts rs
+
+-- ---- what the theorems say of a reading
+
+-- rs are the records of s from a place on, and at most `left`
+pub record ReadWhole (left : ℕ) (s : List ℕ) (at : ℕ) (rs : List Record) : Type 0 where
+  pub text : drop at s ≡ texts rs
+  pub form : Every InForm rs
+  pub few : length rs ≤ left
+
+-- the lines before line l are the texts of records of the form, and line l begins at e
+pub record Before (s : List ℕ) (at line l e : ℕ) : Type 0 where
+  pub rs : List Record
+  pub text : drop at s ≡ texts rs ++ drop e s
+  pub form : Every InForm rs
+  pub count : l ≡ line + length rs
+
+-- line l is not of the form, or unended
+pub record NotOfForm (s : List ℕ) (at line l : ℕ) : Type 0 where
+  pub e : ℕ
+  pub before : Before s at line l e
+  pub bad : lineAt s e ≡ Bad
+
+-- line l is one more than was allowed
+pub record OneTooMany (left : ℕ) (s : List ℕ) (at line l : ℕ) : Type 0 where
+  pub e : ℕ
+  pub before : Before s at line l e
+  pub many : l ≡ line + left
+  pub more : e < length s
