@@ -7,8 +7,9 @@ use Rattle.model.specs.Rules.{distance, brokenAt, certified}
 use Rattle.model.specs.State.{placeOf, freePlace}
 use Rattle.model.specs.Step.{order, step}
 use Rattle.model.specs.Session.{replies}
+use Rattle.records.proofs.Example.{p10}
 use Rattle.worked.specs.Table.{Holds, table}
 
 pub worked : Every Holds table
 unfolding find count any recorded written wroteAt pendingOf upTo between changedAfter versions newest logged lookUp installed madeAt distance brokenAt certified placeOf freePlace order step replies
-worked = also refl (also refl (also refl (also refl (also refl (also refl (also refl (also refl (also refl none))))))))
+worked = also refl (also refl (also refl (also refl (also refl (also refl (also refl (also refl (also refl (also p10 none)))))))))
