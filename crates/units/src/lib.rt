@@ -1,6 +1,6 @@
 // The things that document 01 counts: stamps, ordinals, versions, bound triples, its limits, its rules and its refusals.
 ghost use mathlib.Core.Path.{_≡_};
-ghost use Rattle.units.specs.Bounds.{bounded};
+ghost use Rattle.units.specs.Bounds.{bounded, snapshot, default};
 
 pub mod limits;
 mod refusal;
@@ -67,6 +67,19 @@ impl Bounds {
         k2: 0,
         k3: 0,
     };
+
+    // The constants by a contract, so that neither can say another triple.
+    pub fn snapshot() -> Bounds
+        ensures { λ r. ⌜ r ≡ snapshot ⌝ }
+    {
+        Bounds::SNAPSHOT
+    }
+
+    pub fn standard() -> Bounds
+        ensures { λ r. ⌜ r ≡ default ⌝ }
+    {
+        Bounds::DEFAULT
+    }
 
     // k1 is at least 1.
     pub fn new(k1: u16, k2: u16, k3: u16) -> Triple
