@@ -1,0 +1,4 @@
+-- The laws of the judge's pass and of its answers, for this crate's proofs; and that what it says is right.
+pub mod Limits
+pub mod Pass
+pub mod Answers
