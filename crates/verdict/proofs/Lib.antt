@@ -2,3 +2,5 @@
 pub mod Limits
 pub mod Pass
 pub mod Answers
+pub mod Right
+pub mod Example
