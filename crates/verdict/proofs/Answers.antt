@@ -1,0 +1,92 @@
+-- From what the pass came to, to the reply and the room.
+use Prim.Native.Nat.{ℕ, zero, suc, _≤_, _<_, min}
+use mathlib.Core.Path.{_≡_, refl, sym, ap, _∙_}
+use mathlib.Core.Bool.{Bool, true, false, cond}
+use mathlib.Core.List.{List, [], _∷_, reverse}
+use borrow.Author.Tests.{lt-ltb, le-ltb}
+use lib.Dec.{leb}
+use lib.ListN.{length, getD}
+use Rattle.units.specs.Refusal.{numberOf}
+use Rattle.units.specs.declared.refusal.Refusal.{Refusal}
+use Rattle.units.specs.declared.refusal.Refusal.the-variants.{NoRoom}
+use Rattle.records.specs.declared.Judged.{Judged}
+use Rattle.records.specs.declared.Totals.{Totals}
+use Rattle.records.specs.declared.Verdict.{Verdict}
+use Rattle.records.specs.Ledger.{blank}
+use Rattle.records.specs.Totals.{noTotals}
+use Rattle.ledger.specs.declared.Counts.{Counts}
+use Rattle.ledger.specs.Books.{Verdicts, verdicts, verdictFrom, judgedAt, judgedOf}
+use Rattle.report.specs.declared.Written.{Written}
+use Rattle.report.specs.declared.Written as written
+use Rattle.report.specs.Report.{verdictAt, judgedList, reportText}
+use Rattle.report.specs.Report as report
+use Rattle.report.specs.Write.{writtenAs}
+use Rattle.report.proofs.Lines.{judged-reverse}
+use Rattle.verdict.specs.declared.Ran.{Ran}
+use Rattle.verdict.specs.declared.Ran.the-variants.{Done, Refused}
+use Rattle.verdict.specs.Judge.{Report, refused, judged, lines, reportOf}
+use Rattle.verdict.specs.Reply.{Reply, bytes, refusedAt, replied, roomAfter, ranTo}
+
+-- ---- the report written, or without room
+
+abbrev heard : Written → Reply
+heard (written.the-variants.Bytes n) = bytes n
+heard (written.the-variants.Refused f) = refusedAt (numberOf f) 0
+
+heard-text : (js : List Judged) (t : Totals) (room : List ℕ) → heard (writtenAs room (reportText js t)) ≡ replied (judged js t) room
+unfolding writtenAs
+heard-text js t room = go (leb (length (reportText js t)) (length room)) (length (reportText js t))
+  where
+    go : (b : Bool) (n : ℕ) → heard (cond b (written.the-variants.Bytes n) (written.the-variants.Refused NoRoom)) ≡ cond b (bytes n) (refusedAt 17 0)
+    go true n = refl
+    go false n = refl
+
+pub finished : (js : List Judged) (t : Totals) (room : List ℕ) {w x : Written} → w ≡ writtenAs room (reportText js t) → w ≡ x → heard x ≡ replied (judged js t) room
+finished js t room p q = ap heard (sym q ∙ p) ∙ heard-text js t room
+
+-- ---- the verdicts in order of commit lines, from the columns
+
+verdict-same : (n : ℕ) → verdictFrom n ≡ verdictAt n
+unfolding verdictFrom verdictAt
+verdict-same zero = refl
+verdict-same (suc zero) = refl
+verdict-same (suc (suc zero)) = refl
+verdict-same (suc (suc (suc zero))) = refl
+verdict-same (suc (suc (suc (suc zero)))) = refl
+verdict-same (suc (suc (suc (suc (suc n))))) = refl
+
+verdicts-oldest : (names codes : List ℕ) (n : ℕ) → judgedList names codes n ≡ reverse (judgedOf (verdicts names codes) n)
+unfolding judgedOf
+verdicts-oldest names codes = judged-reverse names codes (judgedOf (verdicts names codes)) none more
+  where
+    none : judgedOf (verdicts names codes) 0 ≡ []
+    none = refl
+
+    more : (n : ℕ) → judgedOf (verdicts names codes) (suc n) ≡ report.judged (getD names n 0) (getD codes n 0) ∷ judgedOf (verdicts names codes) n
+    more n = ap (λ (v : Verdict). record { name = getD names n 0; verdict = v } ∷ judgedOf (verdicts names codes) n) (verdict-same (getD codes n 0))
+
+-- ---- the whole answer
+
+module _ (s room : List ℕ) where
+  pub too-long : 65536 < length s → (refusedAt 12 0 ≡ replied (reportOf s) room) × (room ≡ roomAfter (reportOf s) room)
+  unfolding reportOf
+  too-long h = rw (lt-ltb 65536 (length s) h) (refl, refl)
+
+  module _ (h : length s ≤ 65536) where
+    short : reportOf s ≡ lines 4096 s 0 1 blank noTotals
+    unfolding reportOf
+    short = rw (le-ltb 65536 (length s) h)
+
+    module _ {r : Ran} (names codes : List ℕ) (p : ranTo r (verdicts names codes) ≡ lines 4096 s 0 1 blank noTotals) where
+      is : {q : Ran} → r ≡ q → ranTo q (verdicts names codes) ≡ reportOf s
+      is e = ap (λ (x : Ran). ranTo x (verdicts names codes)) (sym e) ∙ p ∙ sym short
+
+      pub judge-refused : {f : Refusal} {line : ℕ} → r ≡ Refused f line → (refusedAt (numberOf f) line ≡ replied (reportOf s) room) × (room ≡ roomAfter (reportOf s) room)
+      judge-refused e = (ap (λ (x : Report). replied x room) (is e), ap (λ (x : Report). roomAfter x room) (is e))
+
+      pub judge-done : {k : Counts} {t : Totals} → r ≡ Done k t → (a : Reply) (after : List ℕ)
+          → (a ≡ replied (judged (judgedList names codes (min (k .judged) 512)) t) room) × (after ≡ roomAfter (judged (judgedList names codes (min (k .judged) 512)) t) room)
+          → (a ≡ replied (reportOf s) room) × (after ≡ roomAfter (reportOf s) room)
+      judge-done {k} {t} e a after w =
+          let same : judged (judgedList names codes (min (k .judged) 512)) t ≡ reportOf s = ap (λ (js : List Judged). judged js t) (verdicts-oldest names codes (min (k .judged) 512)) ∙ is e in
+          (w .0 ∙ ap (λ (x : Report). replied x room) same, w .1 ∙ ap (λ (x : Report). roomAfter x room) same)

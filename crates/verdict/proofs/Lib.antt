@@ -1,0 +1,6 @@
+-- The laws of the judge's pass and of its answers, for this crate's proofs; and that what it says is right.
+pub mod Limits
+pub mod Pass
+pub mod Answers
+pub mod Right
+pub mod Example

@@ -1,0 +1,116 @@
+-- What a history of at most 4,096 lines leaves room for: no read and no verdict is ever dropped.
+use Prim.Native.Nat.{ℕ, suc, _+_, _≤_, _<_}
+use native.Mathlib.Omega.{arith}
+use mathlib.Core.Path.{_≡_, refl, sym, ap, _∙_}
+use mathlib.Core.Bool.{Bool, true, false, cond, false≢true}
+use mathlib.Core.List.{List, [], _∷_}
+use borrow.Author.Tests.{leb-false}
+use lib.Dec.{leb}
+use lib.ListN.{length}
+use Rattle.lists.specs.Lists.{any, count}
+use Rattle.lists.proofs.Count.{count-empty, count-step}
+use Rattle.records.specs.declared.Record.{Record}
+use Rattle.records.specs.declared.Record.the-variants.{Start, Tune, Read, Write, Commit, Abort}
+use Rattle.records.specs.declared.Row.{Row}
+use Rattle.records.specs.declared.Seen.{Seen}
+use Rattle.records.specs.Written.{History}
+use Rattle.records.specs.Ledger.{Ledger, Outcome, refused, went, nameOf, named, rowOf, become, isOpen, isRecorded, changed, noted, step}
+use Rattle.records.specs.Tally.{starts, totalsOf, Counts}
+use Rattle.records.specs.Judge.{Taken, nothing, line, Right}
+use Rattle.records.proofs.Rows.{one}
+use Rattle.records.proofs.Runs.{Ran, bare, began, moved, movedAt, begunAt, ran}
+use Rattle.records.proofs.Verdicts.{judge-right}
+use Rattle.records.proofs.Tallies.{totals-right}
+
+become-length : (rs : List Row) (t : ℕ) (q : Row) → length (become rs t q) ≡ length rs
+unfolding become
+become-length [] t q = refl
+become-length (r ∷ rs) t q = go (named t r) (become-length rs t q)
+  where
+    go : (b : Bool) → length (become rs t q) ≡ length rs → length (cond b (q ∷ rs) (r ∷ become rs t q)) ≡ suc (length rs)
+    go true k = refl
+    go false k = ap suc k
+
+-- ---- "512 transactions": a start past them is refused
+
+stays : (b : Bool) (n : ℕ) (m l : Ledger) → length (m .rows) ≤ 512 → cond b (went m) (refused n) ≡ went l → length (l .rows) ≤ 512
+stays true n m l h q = let e : m ≡ l = cc in rw (← e) h
+stays false n m l h q = let z : _≡_ {A = ℕ} 0 1 = cc in absurd (omega arith)
+
+moves : (n : ℕ) (e : Record) (l m : Ledger) → length (l .rows) ≤ 512 → cond (isOpen (rowOf (l .rows) (nameOf e))) (went (movedAt n e l)) (refused 15) ≡ went m → length (m .rows) ≤ 512
+moves n e l m h q =
+    stays (isOpen (rowOf (l .rows) (nameOf e))) 15 (movedAt n e l) m
+    (rw (become-length (l .rows) (nameOf e) (changed n (length (l .seens)) e (rowOf (l .rows) (nameOf e)))) h) q
+
+rows-step : (n : ℕ) (e : Record) (l m : Ledger) → length (l .rows) ≤ 512 → step n e l ≡ went m → length (m .rows) ≤ 512
+unfolding step
+rows-step n (Start t) l m h q = go (any (named t) (l .rows)) (leb 512 (length (l .rows))) refl q
+  where
+    go : (a b : Bool) → leb 512 (length (l .rows)) ≡ b → cond a (refused 15) (cond b (refused 16) (went (begunAt n t l))) ≡ went m → length (m .rows) ≤ 512
+    go true b p q = let z : _≡_ {A = ℕ} 0 1 = cc in absurd (omega arith)
+    go false true p q = let z : _≡_ {A = ℕ} 0 1 = cc in absurd (omega arith)
+    go false false p q =
+        let e : begunAt n t l ≡ m = cc in
+        rw (← e) (omega (arith, leb-false 512 (length (l .rows)) p))
+rows-step n (Tune t b) l m h q = moves n (Tune t b) l m h q
+rows-step n (Read t x w) l m h q = moves n (Read t x w) l m h q
+rows-step n (Write t x) l m h q = moves n (Write t x) l m h q
+rows-step n (Commit t) l m h q = moves n (Commit t) l m h q
+rows-step n (Abort t) l m h q = moves n (Abort t) l m h q
+
+pub rows-most : {h : History} {l : Ledger} → Taken h l → length (l .rows) ≤ 512
+rows-most nothing = omega arith
+rows-most (line {h} {r = e} {l = l} {l′ = m} t q) = rows-step (suc (length h)) e l m (rows-most t) q
+
+-- as many rows as starts
+rows-counted : {h : History} {l : Ledger} → Ran h l → length (l .rows) ≡ count starts h
+rows-counted bare = sym (count-empty starts)
+rows-counted (began {h} {t = t} {l = l} r k) = omega (arith, rows-counted r, count-step starts (Start t) h)
+rows-counted (moved {h} {e} {l} r s o) =
+    omega (
+      arith,
+      become-length (l .rows) (nameOf e) (changed (suc (length h)) (length (l .seens)) e (rowOf (l .rows) (nameOf e))),
+      rows-counted r,
+      count-step starts e h,
+      ap one s,
+    )
+
+-- ---- each line records at most one read
+
+noted-most : (rows : List Row) (e : Record) (r : Row) (ss : List Seen) → length (noted rows e r ss) ≤ suc (length ss)
+unfolding noted
+noted-most rows (Start t) r ss = omega arith
+noted-most rows (Tune t b) r ss = omega arith
+noted-most rows (Read t x w) r ss = go (isRecorded r x w) _
+  where
+    go : (b : Bool) (s : Seen) → length (cond b (s ∷ ss) ss) ≤ suc (length ss)
+    go true s = omega arith
+    go false s = omega arith
+noted-most rows (Write t x) r ss = omega arith
+noted-most rows (Commit t) r ss = omega arith
+noted-most rows (Abort t) r ss = omega arith
+
+seens-ran : {h : History} {l : Ledger} → Ran h l → length (l .seens) ≤ length h
+seens-ran bare = omega arith
+seens-ran (began r k) = omega (arith, seens-ran r)
+seens-ran (moved {h} {e} {l} r s o) = omega (arith, noted-most (l .rows) e (rowOf (l .rows) (nameOf e)) (l .seens), seens-ran r)
+
+pub seens-most : {h : History} {l : Ledger} → Taken h l → length (l .seens) ≤ length h
+seens-most t = seens-ran (ran t)
+
+-- ---- an open row is one that has no verdict yet
+
+open-some : (rs : List Row) (t : ℕ) → isOpen (rowOf rs t) ≡ true → 1 ≤ count isOpen rs
+unfolding rowOf
+open-some [] t o = absurd (false≢true o)
+open-some (r ∷ rs) t o = go (named t r) (open-some rs t) o
+  where
+    go : (b : Bool) → (isOpen (rowOf rs t) ≡ true → 1 ≤ count isOpen rs) → isOpen (cond b r (rowOf rs t)) ≡ true → 1 ≤ count isOpen (r ∷ rs)
+    go true k o = omega (arith, count-step isOpen r rs, ap one o)
+    go false k o = omega (arith, count-step isOpen r rs, k o)
+
+pub judged-room : {h : History} {l : Ledger} → Taken h l → length h ≤ 4096 → (t : ℕ) → isOpen (rowOf (l .rows) t) ≡ true → length (l .judged) < 512
+judged-room {h} {l} taken few t o =
+    let r : Right h l = judge-right taken few in
+    let n : Counts h l (totalsOf h) = totals-right taken few in
+    omega (arith, r .number, n .«open», n .rest, open-some (l .rows) t o, rows-counted (ran taken), rows-most taken)

@@ -1,0 +1,39 @@
+-- The judge's reply in document 01's numbers, and the lent room after it.
+use Prim.Native.Nat.{ℕ, min}
+use mathlib.Core.Bool.{cond}
+use mathlib.Core.List.{List, reverse}
+use lib.Dec.{leb}
+use lib.ListN.{length}
+use Rattle.units.specs.Refusal.{numberOf}
+use Rattle.decimal.specs.Write.{put}
+use Rattle.ledger.specs.Books.{Verdicts, judgedOf}
+use Rattle.report.specs.Report.{reportText}
+use Rattle.verdict.specs.declared.Answer.{Answer}
+use Rattle.verdict.specs.declared.Answer as answer
+use Rattle.verdict.specs.declared.Ran.{Ran}
+use Rattle.verdict.specs.declared.Ran as ran
+use Rattle.verdict.specs.Judge.{Report, refused, judged}
+
+-- how many bytes were written, or a refusal by its number and line
+pub data Reply : Type 0 where
+  bytes : ℕ → Reply
+  refusedAt : (number line : ℕ) → Reply
+
+abbrev pub replyOf : Answer → Reply
+replyOf (answer.the-variants.Bytes n) = bytes n
+replyOf (answer.the-variants.Refused f line) = refusedAt (numberOf f) line
+
+-- 17: "the whole output or message is longer than the lent room"; its line is 0
+abbrev pub replied : Report → List ℕ → Reply
+replied (refused number line) room = refusedAt number line
+replied (judged js t) room = cond (leb (length (reportText js t)) (length room)) (bytes (length (reportText js t))) (refusedAt 17 0)
+
+-- the output at the front, whole or not at all; a refusal leaves the room as it was
+abbrev pub roomAfter : Report → List ℕ → List ℕ
+roomAfter (refused number line) room = room
+roomAfter (judged js t) room = put room 0 (reportText js t)
+
+-- what the pass over the lines answered, with the columns of the verdicts
+abbrev pub ranTo : Ran → Verdicts → Report
+ranTo (ran.the-variants.Done k t) v = judged (reverse (judgedOf v (min (k .judged) 512))) t
+ranTo (ran.the-variants.Refused f line) v = refused (numberOf f) line
