@@ -1,23 +1,19 @@
+-- `print` meets its contract: the bytes written are within the room.
+use mathlib.Core.Path.{sym}
+use lib.Seq.{length-take-le}
 use borrow.Author.Needs.{needs}
 use Rattle.judge.proofs.print.Statement.{statement}
 use Rattle.judge.proofs.print.Tie as tie
-use Rattle.judge.proofs.print.Reads as reads
-use Rattle.judge.proofs.print.Lts as lts
-use Rattle.io.proofs.write_all.Reads as write-all-reads
 
--- src/main.rt:17:38
 slice-aggregate-write-all : tie.Need-slice-aggregate-write-all
-slice-aggregate-write-all c = ?
+slice-aggregate-write-all c = sym (length-take-le _ (c .before .before .before .args .room .now) (c .before .if1 .taken))
 
--- src/main.rt:17:9
 write-all-requires : tie.Need-write-all-requires
 write-all-requires c κs = search needs
 
--- src/main.rt:15:1
 returns : tie.Need-returns
 returns c = search needs
 
--- src/main.rt:15:1
 returns-2 : tie.Need-returns-2
 returns-2 c = search needs
 
