@@ -1,20 +1,12 @@
 -- `print` meets its contract: the bytes written are within the room.
-<<<<<<< HEAD
-use native.Mathlib.Omega.{arith}
-=======
 use mathlib.Core.Path.{sym}
 use lib.Seq.{length-take-le}
->>>>>>> 2fe98945c7961852e9585b70e60b5d66b73049c6
 use borrow.Author.Needs.{needs}
 use Rattle.judge.proofs.print.Statement.{statement}
 use Rattle.judge.proofs.print.Tie as tie
 
 slice-aggregate-write-all : tie.Need-slice-aggregate-write-all
-<<<<<<< HEAD
-slice-aggregate-write-all c = omega arith
-=======
 slice-aggregate-write-all c = sym (length-take-le _ (c .before .before .before .args .room .now) (c .before .if1 .taken))
->>>>>>> 2fe98945c7961852e9585b70e60b5d66b73049c6
 
 write-all-requires : tie.Need-write-all-requires
 write-all-requires c κs = search needs
