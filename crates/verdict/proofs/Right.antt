@@ -23,9 +23,8 @@ use Rattle.history.specs.declared.Line.{Line}
 use Rattle.history.specs.declared.Line as read
 use Rattle.history.specs.Line.{lineAt}
 use Rattle.history.specs.Text.{textOf, Written}
-use Rattle.history.specs.Records.{texts}
+use Rattle.history.specs.Records.{texts, ReadWhole}
 use Rattle.history.proofs.Reading.{line-reads, end-exactly}
-use Rattle.history.proofs.Whole.{Read}
 use Rattle.verdict.specs.Judge.{Report, judged, concluded, onLine, onOutcome, lines, reportOf}
 use Rattle.verdict.specs.Judge as said
 use Rattle.verdict.specs.Whole.{Whole}
@@ -36,7 +35,7 @@ not-judged q = let z : _≡_ {A = ℕ} 0 1 = cc in absurd (omega arith)
 -- the records from a place on, behind those of h
 record Rest (left : ℕ) (s : List ℕ) (at : ℕ) (h : History) (js : List Judged) (t : Totals) : Type 0 where
   records : List Record
-  read : Read left s at records
+  read : ReadWhole left s at records
   ledger : Ledger
   taken : Taken (reverse records ++ h) ledger
   verdicts : js ≡ reverse (ledger .judged)
