@@ -5,5 +5,6 @@ pub mod Steps
 pub mod Reading
 pub mod Values
 pub mod Writing
+pub mod Putting
 pub mod Back
 pub mod Bad

@@ -11,7 +11,7 @@ use mathlib.Core.Logic.{_⊎_, inl, inr}
 use borrow.Author.Tests.{le-leb, lt-leb, leb-true, leb-false, not-true, not-false}
 use lib.Dec.{leb}
 use lib.ListN.{length, getD, set, take, drop, length-append, length-drop}
-use lib.Seq.{sets, sets-eq, set-comm, take-at, drop-at, length-take-le, drop-drop, getD-take, getD-drop}
+use lib.Seq.{sets, sets-eq, set-comm, paste, paste-suc, length-paste, take-length, take-at, drop-at, length-take-le, drop-drop, getD-take, getD-drop}
 use Rattle.decimal.specs.Text.{decimal}
 use Rattle.decimal.specs.Read.{Stands}
 use Rattle.decimal.specs.Write.{put, wrote}
@@ -95,6 +95,21 @@ module _ (b : List ℕ) (at w : ℕ) (t : List ℕ) (e : w ≡ length t) {r : Bo
 -- a text behind its first byte
 pub behind : {c : List ℕ} (b : List ℕ) (at d : ℕ) (t : List ℕ) → c ≡ sets (set b at d) (at + 1) t → c ≡ sets b at (d ∷ t)
 behind b at d t q = q ∙ ap (λ (k : ℕ). sets (set b at d) k t) (add-one at)
+
+-- a text, byte by byte: the first i bytes have been copied
+module _ (b : List ℕ) (at : ℕ) (t : List ℕ) (room : at + length t ≤ length b) {c : List ℕ} {i : ℕ} (p : c ≡ paste b at t i) where
+  pub copy-length : i ≤ length t → length c ≡ length b
+  copy-length h = ap length p ∙ length-paste b at t i (omega arith) h
+
+  pub copy-more : i < length t → set c (at + i) (getD t i 0) ≡ paste b at t (i + 1)
+  copy-more h = ap (λ (l : List ℕ). set l (at + i) (getD t i 0)) p ∙ paste-suc b at t i 0 (omega arith) h ∙ ap (paste b at t) (sym (add-one i))
+
+  pub copy-all : i ≤ length t → length t ≤ i → (Next (at + i) ≡ wrote b at t) × (c ≡ put b at t)
+  copy-all h g =
+      let e : i ≡ length t = omega arith in (
+        ap (λ (k : ℕ). Next (at + k)) e ∙ sym (wrote-room b at t room),
+        p ∙ ap (paste b at t) e ∙ ap (λ (u : List ℕ). take at b ++ u ++ drop (at + length t) b) (take-length t) ∙ sym (put-room b at t room),
+      )
 
 -- the same text by another name
 pub as-text : (b : List ℕ) (at : ℕ) {c : List ℕ} {r : Put} {t u : List ℕ} → u ≡ t → (r ≡ wrote b at t) × (c ≡ put b at t) → (r ≡ wrote b at u) × (c ≡ put b at u)

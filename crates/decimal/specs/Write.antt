@@ -1,5 +1,6 @@
 -- Writing text. Document 01: "After a text is written, the rest of its buffer is untouched"; on a refusal "buffers stay".
-use Prim.Native.Nat.{ℕ, _+_}
+use Prim.Native.Nat.{ℕ, _+_, _≤_}
+use mathlib.Core.Path.{_≡_}
 use mathlib.Core.Bool.{Bool, cond}
 use mathlib.Core.List.{List, _++_}
 use lib.Dec.{leb}
@@ -21,6 +22,16 @@ put b at t = cond (room b at (length t)) (take at b ++ t ++ drop (at + length t)
 -- the answer: the place behind t
 unfoldable pub wrote : List ℕ → ℕ → List ℕ → Put
 wrote b at t = cond (room b at (length t)) (Next (at + length t)) Full
+
+-- what is answered where the whole text t is handed over at the front of b: its length, or that there is no room
+abbrev pub handedOver : {A : Type 0} → (ℕ → A) → A → List ℕ → List ℕ → A
+handedOver bytes noRoom b t = cond (leb (length t) (length b)) (bytes (length t)) noRoom
+
+-- the text t was put into b at `at`, which made it c, and r is the place behind it
+pub record Puts (b c : List ℕ) (at : ℕ) (t : List ℕ) (r : ℕ) : Type 0 where
+  pub place : r ≡ at + length t
+  pub fits : r ≤ length b
+  pub text : c ≡ put b at t
 
 -- a value, taken apart: `Minus v` is -1 - v
 unfoldable pub signOf : ℤ → Sign

@@ -13,6 +13,7 @@ pub use write::Put;
 pub use write::put_byte;
 pub use write::put_natural;
 pub use write::put_signed;
+pub use write::put_text;
 
 const ZERO: u8 = b'0';
 

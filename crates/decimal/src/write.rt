@@ -34,6 +34,22 @@ pub fn put_byte(buf: &mut [u8], at: usize, b: u8) -> Put
     Put::Full
 }
 
+// A text, as a word.
+pub fn put_text(buf: &mut [u8], at: usize, text: &[u8]) -> Put
+    ensures reply { λ r. ⌜ r ≡ wrote (now (buf .entry)) at (now (text .entry)) ⌝ }
+    ensures buffer { λ _. ⌜ now (buf .exit) ≡ put (now (buf .entry)) at (now (text .entry)) ⌝ }
+{
+    if !has_room(buf.len(), at, text.len()) {
+        return Put::Full;
+    }
+    let mut i = 0;
+    while i < text.len() {
+        buf[at + i] = text[i];
+        i += 1;
+    }
+    Put::Next(at + i)
+}
+
 // The digits of n.
 pub fn put_natural(buf: &mut [u8], at: usize, n: u64) -> Put
     ensures reply { λ r. ⌜ r ≡ wrote (now (buf .entry)) at (decimal n) ⌝ }

@@ -13,16 +13,16 @@ use lib.Seq.{drop-cons}
 use Rattle.units.specs.declared.Item.{Item}
 use Rattle.lists.specs.Lists.{Every, none, also}
 use Rattle.decimal.specs.Read.{naturals}
+use Rattle.decimal.specs.Write.{Puts}
 use Rattle.decimal.proofs.Reading.{after, head-of}
+use Rattle.decimal.proofs.Putting.{puts-front}
 use Rattle.message.specs.Line.{field, itemText, itemsText, lineOf, InRanges, distinct, InForm, itemsOf}
 use Rattle.message.specs.Read.{Reading, whole, bad, onNumber, onPiece, behindTab, itemAt, endsAt, closed, itemsAt, readLine, messageOf}
-use Rattle.message.specs.Write.{Puts}
 use Rattle.message.specs.declared.read.Form.{Form}
 use Rattle.message.specs.declared.read.Piece.{Piece}
 use Rattle.message.proofs.Batches.{batch-items}
 use Rattle.message.proofs.Fields.{byte-within, Tabbed, number-tabbed, tabbed-text, tabbed-at, Took, number-took}
 use Rattle.message.proofs.Items.{ItemAt, item-reads, item-back, TookPiece, piece-took, stops-items}
-use Rattle.message.proofs.Putting.{puts-front}
 
 no-reading : {A : Type 0} (stamp : ℕ) (items : List Item) → bad ≡ whole stamp items → A
 no-reading stamp items q = let z : _≡_ {A = ℕ} 0 1 = cc in absurd (omega arith)
@@ -225,5 +225,5 @@ message-whole s h = go (readLine s) refl h
     go bad q h = let z : _≡_ {A = ℕ} 0 1 = cc in absurd (omega arith)
 
 -- a message of the form that was put at the front of a room is read back from there
-pub written-back : {b c : List ℕ} {r : ℕ} (stamp : ℕ) (items : List Item) → InForm stamp items → Puts b c 0 (lineOf stamp items) r → r ≤ length b → readLine (take r c) ≡ whole stamp items
-written-back stamp items f p h = ap readLine (puts-front p h) ∙ line-back stamp items f
+pub written-back : {b c : List ℕ} {r : ℕ} (stamp : ℕ) (items : List Item) → InForm stamp items → Puts b c 0 (lineOf stamp items) r → readLine (take r c) ≡ whole stamp items
+written-back stamp items f p = ap readLine (puts-front p) ∙ line-back stamp items f

@@ -2,10 +2,10 @@
 ghost use Prim.Native.Nat.{_+_, _≤_};
 ghost use mathlib.Core.Path.{_≡_};
 ghost use lib.IntN.{pos};
-ghost use lib.ListN.{length, take};
-ghost use Rattle.decimal.specs.Write.{put};
+ghost use lib.ListN.{length};
+ghost use Rattle.decimal.specs.Write.{put, Puts};
 ghost use Rattle.message.specs.Line.{field, itemText, itemsText, lineOf, itemsOf};
-ghost use Rattle.message.specs.Write.{Puts, sentAs};
+ghost use Rattle.message.specs.Write.{sentAs};
 use crate::LETTER;
 use crate::NEWLINE;
 use crate::TAB;
@@ -14,6 +14,7 @@ use decimal::Put;
 use decimal::put_byte;
 use decimal::put_natural;
 use decimal::put_signed;
+use decimal::put_text;
 use units::Batch;
 use units::Item;
 use units::Refusal;
@@ -34,23 +35,10 @@ pub fn write_message(room: &mut [u8], stamp: Stamp, batch: Batch) -> Sent
 {
     let mut text = [0u8; LONGEST];
     let end = put_line(&mut text, stamp, batch);
-    if room.len() < end {
+    let Put::Next(n) = put_text(room, 0, &text[..end]) else {
         return Sent::Refused(Refusal::NoRoom);
-    }
-    copy_in(room, &text, end);
-    Sent::Bytes(end)
-}
-
-// The first n bytes of a text, at the front of the room.
-fn copy_in(room: &mut [u8], text: &[u8], n: usize)
-    requires { ⌜ (n ≤ length (now room)) × (n ≤ length (now text)) ⌝ }
-    ensures { λ _. ⌜ now (room .exit) ≡ put (now (room .entry)) 0 (take n (now (text .entry))) ⌝ }
-{
-    let mut i = 0;
-    while i < n {
-        room[i] = text[i];
-        i += 1;
-    }
+    };
+    Sent::Bytes(n)
 }
 
 // The whole line, at the front of a text that is long enough for any.

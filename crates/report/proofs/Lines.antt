@@ -6,12 +6,12 @@ use mathlib.Core.Path.{_≡_, refl, sym, ap, _∙_, subst}
 use mathlib.Core.List.{List, [], _∷_, _++_, append-assoc, append-nil, reverse, reverse-cons}
 use lib.ListN.{length, getD, length-append}
 use Rattle.decimal.specs.Text.{decimal}
+use Rattle.decimal.specs.Write.{Puts}
+use Rattle.decimal.proofs.Putting.{puts-then, puts-none}
 use Rattle.records.specs.declared.Judged.{Judged}
 use Rattle.records.specs.declared.Totals.{Totals}
 use Rattle.records.specs.declared.Verdict.the-variants.{WC}
 use Rattle.report.specs.Report.{lineOf, judge, total, refused, verdictAt, verdictWord, judged, judgedList, headLine, verdictLine, verdictLines, totalLine, reportText, refusedText}
-use Rattle.report.specs.Write.{Puts}
-use Rattle.report.proofs.Putting.{puts-then, puts-none}
 
 -- ---- a line, field by field
 

@@ -4,12 +4,13 @@ ghost use mathlib.Core.Path.{_≡_};
 ghost use mathlib.Core.List.{_∷_, _++_, []};
 ghost use lib.ListN.{length};
 ghost use Rattle.decimal.specs.Text.{decimal};
-ghost use Rattle.decimal.specs.Write.{put};
+ghost use Rattle.decimal.specs.Write.{put, Puts};
 ghost use Rattle.report.specs.Report.{verdictAt, verdictWord, judged, judgedList, headLine, verdictLine, verdictLines, totalLine, reportText, refusedText};
-ghost use Rattle.report.specs.Write.{Puts, writtenAs};
+ghost use Rattle.report.specs.Write.{writtenAs};
 use decimal::Put;
 use decimal::put_byte;
 use decimal::put_natural;
+use decimal::put_text;
 use records::Totals;
 use units::Refusal;
 use units::limits;
@@ -62,11 +63,9 @@ fn hand_over(room: &mut [u8], text: &[u8]) -> Written
     ensures reply { λ r. ⌜ r ≡ writtenAs (now (room .entry)) (now (text .entry)) ⌝ }
     ensures buffer { λ _. ⌜ now (room .exit) ≡ put (now (room .entry)) 0 (now (text .entry)) ⌝ }
 {
-    let n = text.len();
-    if room.len() < n {
+    let Put::Next(n) = put_text(room, 0, text) else {
         return Written::Refused(Refusal::NoRoom);
-    }
-    copy_in(room, 0, text);
+    };
     Written::Bytes(n)
 }
 
@@ -160,7 +159,7 @@ fn put_word(text: &mut [u8], at: usize, word: &[u8], then: u8) -> usize
     requires { ⌜ at + length (now word) + 1 ≤ length (now text) ⌝ }
     ensures { λ r. ⌜ (Puts (now (text .entry)) (now (text .exit)) at (now (word .entry) ++ (then ∷ [])) r) × (r ≡ at + length (now (word .entry)) + 1) ⌝ }
 {
-    copy_in(text, at, word);
+    put_text(text, at, word);
     let end = at + word.len();
     put_byte(text, end, then);
     end + 1
@@ -176,17 +175,6 @@ fn put_number(text: &mut [u8], at: usize, n: u32, then: u8) -> usize
     };
     put_byte(text, end, then);
     end + 1
-}
-
-fn copy_in(text: &mut [u8], at: usize, word: &[u8])
-    requires { ⌜ at + length (now word) ≤ length (now text) ⌝ }
-    ensures { λ _. ⌜ Puts (now (text .entry)) (now (text .exit)) at (now (word .entry)) (at + length (now (word .entry))) ⌝ }
-{
-    let mut i = 0;
-    while i < word.len() {
-        text[at + i] = word[i];
-        i += 1;
-    }
 }
 
 // How many verdicts there are.

@@ -1,11 +1,8 @@
 -- The judge's reply in document 01's numbers, and the lent room after it.
 use Prim.Native.Nat.{ℕ, min}
-use mathlib.Core.Bool.{cond}
 use mathlib.Core.List.{List, reverse}
-use lib.Dec.{leb}
-use lib.ListN.{length}
 use Rattle.units.specs.Refusal.{numberOf}
-use Rattle.decimal.specs.Write.{put}
+use Rattle.decimal.specs.Write.{put, handedOver}
 use Rattle.ledger.specs.Books.{Verdicts, judgedOf}
 use Rattle.report.specs.Report.{reportText}
 use Rattle.verdict.specs.declared.Answer.{Answer}
@@ -26,7 +23,7 @@ replyOf (answer.the-variants.Refused f line) = refusedAt (numberOf f) line
 -- 17: "the whole output or message is longer than the lent room"; its line is 0
 abbrev pub replied : Report → List ℕ → Reply
 replied (refused number line) room = refusedAt number line
-replied (judged js t) room = cond (leb (length (reportText js t)) (length room)) (bytes (length (reportText js t))) (refusedAt 17 0)
+replied (judged js t) room = handedOver bytes (refusedAt 17 0) room (reportText js t)
 
 -- the output at the front, whole or not at all; a refusal leaves the room as it was
 abbrev pub roomAfter : Report → List ℕ → List ℕ

@@ -1,20 +1,36 @@
--- `hand_over` meets its contract: the text is longer than the room, or it is copied there.
-use Rattle.report.proofs.Putting.{refuses, writes}
+-- `hand_over` meets its contract: the text is put at the front of the room.
+use Rattle.decimal.proofs.Putting.{handed-whole, handed-full}
+use Rattle.report.specs.Write.{writtenAs}
+use Rattle.units.specs.declared.refusal.Refusal.the-variants.{NoRoom}
+use Rattle.report.specs.declared.Written.the-variants.{Bytes, Refused}
 use borrow.Author.Needs.{needs}
 use Rattle.report.proofs.hand_over.Statement.{statement}
 use Rattle.report.proofs.hand_over.Tie as tie
 
-returns : tie.Need-returns
-returns c = refuses _ _ (c .if1 .taken)
+put-text-requires : tie.Need-put-text-requires
+put-text-requires c κs = search needs
 
-copy-in-requires : tie.Need-copy-in-requires
-copy-in-requires c κs = search needs
+enum-known-n : tie.Need-enum-known-n
+enum-known-n c = search needs
+
+enum-told : tie.Need-enum-told
+enum-told c = search needs
 
 same-length : tie.Need-same-length
 same-length c = search needs
 
+returns : tie.Need-returns
+unfolding writtenAs
+returns c = handed-full Bytes (Refused NoRoom) _ _ (c .before .before .before .before .put-text .ensures) (c .enum-told .given .1)
+
+same-length-2 : tie.Need-same-length-2
+same-length-2 c = search needs
+
 returns-2 : tie.Need-returns-2
-returns-2 c = writes _ _ (c .before .before .copy-in .ensures) (c .before .before .before .before .if1 .left)
+unfolding writtenAs
+returns-2 c = handed-whole Bytes (Refused NoRoom) _ _ (c .before .before .before .before .before .put-text .ensures) (c .before .n .given .1)
 
 pub hand-over-spec : {M : Type 1} → statement M
-hand-over-spec = tie.close (tie.spec returns copy-in-requires same-length returns-2)
+hand-over-spec =
+    tie.close
+    (tie.spec put-text-requires enum-known-n enum-told same-length returns same-length-2 returns-2)

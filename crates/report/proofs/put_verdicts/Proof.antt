@@ -1,9 +1,9 @@
 -- `put_verdicts` meets its contract. The invariant: the lines passed stand behind one another, at most 14 bytes each.
 use Prim.Native.Nat.{_+_, _-_, _*_, _≤_}
 use native.Mathlib.Omega.{arith}
+use Rattle.decimal.specs.Write.{Puts}
+use Rattle.decimal.proofs.Putting.{puts-length}
 use Rattle.report.specs.Report.{judgedList, verdictLines}
-use Rattle.report.specs.Write.{Puts}
-use Rattle.report.proofs.Putting.{puts-length}
 use Rattle.report.proofs.Lines.{verdicts-none, verdicts-more, verdicts-all}
 use Rattle.report.proofs.put_verdicts.Statement.{statement}
 use Rattle.report.proofs.put_verdicts.Tie as tie

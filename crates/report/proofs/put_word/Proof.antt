@@ -5,8 +5,8 @@ use borrow.Author.Needs.{needs}
 use Rattle.report.proofs.put_word.Statement.{statement}
 use Rattle.report.proofs.put_word.Tie as tie
 
-copy-in-requires : tie.Need-copy-in-requires
-copy-in-requires c κs = search needs
+put-text-requires : tie.Need-put-text-requires
+put-text-requires c κs = search needs
 
 add-end : tie.Need-add-end
 add-end c = search needs
@@ -21,8 +21,8 @@ same-length : tie.Need-same-length
 same-length c = search needs
 
 returns : tie.Need-returns
-returns c = (word-put _ (c .before .before .before .before .before .before .copy-in .ensures) (c .before .before .before .before .before .before .before .before .before .before .pre) (c .before .before .put-byte .ensures .1), refl)
+returns c = (word-put _ _ _ _ (c .before .before .before .before .before .before .put-text .ensures .1) (c .before .before .before .before .before .before .before .before .before .before .pre) (c .before .before .put-byte .ensures .1), refl)
 
 pub put-word-spec : {M : Type 1} → statement M
 put-word-spec =
-    tie.close (tie.spec copy-in-requires add-end put-byte-requires add-result same-length returns)
+    tie.close (tie.spec put-text-requires add-end put-byte-requires add-result same-length returns)

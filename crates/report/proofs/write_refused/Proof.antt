@@ -1,5 +1,5 @@
 -- `write_refused` meets its contract: the line as it stands in the local text is handed over.
-use Rattle.report.proofs.Putting.{puts-taken, handed}
+use Rattle.decimal.proofs.Putting.{puts-front, puts-taken}
 use borrow.Author.Needs.{needs}
 use Rattle.report.proofs.write_refused.Statement.{statement}
 use Rattle.report.proofs.write_refused.Tie as tie
@@ -23,7 +23,7 @@ same-length : tie.Need-same-length
 same-length c = search needs
 
 returns : tie.Need-returns
-returns c = handed (c .before .before .before .before .before .before .put-refused .ensures) _ _ _ (c .before .before .hand-over .ensures)
+returns c = rw (puts-front (c .before .before .before .before .before .before .put-refused .ensures)) at (c .before .before .hand-over .ensures)
 
 pub write-refused-spec : {M : Type 1} → statement M
 write-refused-spec =

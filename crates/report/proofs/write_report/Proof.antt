@@ -1,5 +1,5 @@
 -- `write_report` meets its contract: the lines as they stand in the local text are handed over.
-use Rattle.report.proofs.Putting.{puts-taken, handed}
+use Rattle.decimal.proofs.Putting.{puts-front, puts-taken}
 use borrow.Author.Needs.{needs}
 use Rattle.report.proofs.write_report.Statement.{statement}
 use Rattle.report.proofs.write_report.Tie as tie
@@ -23,7 +23,7 @@ same-length : tie.Need-same-length
 same-length c = search needs
 
 returns : tie.Need-returns
-returns c = handed (c .before .before .before .before .before .before .put-report .ensures) _ _ _ (c .before .before .hand-over .ensures)
+returns c = rw (puts-front (c .before .before .before .before .before .before .put-report .ensures)) at (c .before .before .hand-over .ensures)
 
 pub write-report-spec : {M : Type 1} → statement M
 write-report-spec =

@@ -4,10 +4,11 @@ use native.Mathlib.Omega.{arith}
 use mathlib.Core.Path.{_≡_}
 use borrow.Author.Needs.{needs}
 use lib.ListN.{length, take}
+use Rattle.decimal.specs.Write.{Puts}
+use Rattle.decimal.proofs.Putting.{puts-length, puts-none}
 use Rattle.message.specs.Line.{itemsOf, itemsText}
-use Rattle.message.specs.Write.{Puts}
 use Rattle.message.proofs.Batches.{batch-at}
-use Rattle.message.proofs.Putting.{puts-length, puts-none, items-more, items-all}
+use Rattle.message.proofs.Putting.{items-more, items-all}
 use Rattle.message.proofs.write.put_items.Statement.{statement}
 use Rattle.message.proofs.write.put_items.Tie as tie
 
@@ -49,7 +50,7 @@ loop-again c =
       omega arith,
       (
         z .1 .0,
-        items-more _ _ (itemsOf (s .args .t3)) (z .1 .1 .1) _ (omega arith) (omega arith) (s .pre) (z .1 .1 .0) (batch-at (s .args .t3) (d .loop .i) (omega arith)) (p .put-item .ensures),
+        items-more _ _ (itemsOf (s .args .t3)) (z .1 .1 .1) _ (omega arith) (z .1 .1 .0) (batch-at (s .args .t3) (d .loop .i) (omega arith)) (p .put-item .ensures),
       ),
     )
 

@@ -1,7 +1,8 @@
--- `write_message` meets its contract: the line is longer than the room, or it is copied there.
-use native.Mathlib.Nat.{zero-add}
-use mathlib.Core.Path.{_∙_}
-use Rattle.message.proofs.Putting.{puts-front, sent-refused, sent-whole}
+-- `write_message` meets its contract: the line as it stands in the local text is put at the front of the room.
+use Rattle.decimal.proofs.Putting.{puts-front, puts-taken, handed-whole, handed-full}
+use Rattle.message.specs.Write.{sentAs}
+use Rattle.units.specs.declared.refusal.Refusal.the-variants.{NoRoom}
+use Rattle.message.specs.declared.write.Sent.the-variants.{Bytes, Refused}
 use borrow.Author.Needs.{needs}
 use Rattle.message.proofs.write.write_message.Statement.{statement}
 use Rattle.message.proofs.write.write_message.Tie as tie
@@ -12,22 +13,38 @@ slice-aggregate-put-line c = search needs
 put-line-requires : tie.Need-put-line-requires
 put-line-requires c κs = search needs
 
-returns : tie.Need-returns
-returns c = sent-refused _ _ (c .before .before .put-line .ensures .0 .place ∙ zero-add _) (c .if1 .taken)
+array-share-prefix-text : tie.Need-array-share-prefix-text
+array-share-prefix-text c = search needs
 
-slice-aggregate-copy-in : tie.Need-slice-aggregate-copy-in
-slice-aggregate-copy-in c = search needs
+slice-aggregate-put-text : tie.Need-slice-aggregate-put-text
+slice-aggregate-put-text c = puts-taken (c .before .before .before .put-line .ensures .0)
 
-copy-in-requires : tie.Need-copy-in-requires
-copy-in-requires c κs = search needs
+put-text-requires : tie.Need-put-text-requires
+put-text-requires c κs = search needs
+
+enum-known-n : tie.Need-enum-known-n
+enum-known-n c = search needs
+
+enum-told : tie.Need-enum-told
+enum-told c = search needs
 
 same-length : tie.Need-same-length
 same-length c = search needs
 
+returns : tie.Need-returns
+unfolding sentAs
+returns c =
+    let t = c .before .before .before .before in
+    handed-full Bytes (Refused NoRoom) _ _ (rw (puts-front (t .before .before .before .before .put-line .ensures .0)) at (t .put-text .ensures)) (c .enum-told .given .1)
+
+same-length-2 : tie.Need-same-length-2
+same-length-2 c = search needs
+
 returns-2 : tie.Need-returns-2
+unfolding sentAs
 returns-2 c =
-    let p = c .before .before .before .before .before .before .before in
-    sent-whole _ _ (p .put-line .ensures .0 .place ∙ zero-add _) (c .before .before .before .before .before .if1 .left) (puts-front (p .put-line .ensures .0) (p .put-line .ensures .1)) (c .before .before .copy-in .ensures)
+    let t = c .before .before .before .before .before in
+    handed-whole Bytes (Refused NoRoom) _ _ (rw (puts-front (t .before .before .before .before .put-line .ensures .0)) at (t .put-text .ensures)) (c .before .n .given .1)
 
 pub write-message-spec : {M : Type 1} → statement M
 write-message-spec =
@@ -35,8 +52,12 @@ write-message-spec =
     (tie.spec
     slice-aggregate-put-line
     put-line-requires
-    returns
-    slice-aggregate-copy-in
-    copy-in-requires
+    array-share-prefix-text
+    slice-aggregate-put-text
+    put-text-requires
+    enum-known-n
+    enum-told
     same-length
+    returns
+    same-length-2
     returns-2)
