@@ -6,7 +6,6 @@ use native.Mathlib.Omega.{arith}
 use mathlib.Core.Path.{_≡_, refl, sym, ap, _∙_, subst}
 use mathlib.Core.Bool.{Bool, true, false, cond}
 use mathlib.Core.List.{List, [], _∷_}
-use borrow.Author.Tests.{eq-eqb, ne-eqb}
 use lib.IntN.{ℤ, pos, negsuc}
 use lib.Signed.{mag}
 use lib.ListN.{length, getD, drop, replicate, List·getD-eq-default}
@@ -17,7 +16,7 @@ use Rattle.decimal.specs.declared.read.Field.the-variants.{Plus, Minus, 
 use Rattle.decimal.specs.declared.read.Natural.{Natural}
 use Rattle.decimal.proofs.Digits.{digit-above, digit-is}
 use Rattle.decimal.proofs.Reading.{head-of, bad-exactly, reads-one}
-use Rattle.decimal.proofs.Steps.{unsigned-bad, negative-bad, digits-end, digits-none, digits-on, field-minus, field-plain}
+use Rattle.decimal.proofs.Steps.{byte-within, unsigned-bad, negative-bad, digits-end, digits-none, digits-on, field-minus, field-plain}
 
 no-digit : (b : ℕ) → b < 48 → isDigit b ≡ false
 no-digit b h = go (isDigit b) refl
@@ -25,14 +24,6 @@ no-digit b h = go (isDigit b) refl
     go : (t : Bool) → isDigit b ≡ t → isDigit b ≡ false
     go false e = e
     go true e = absurd (omega (arith, digit-above b e))
-
--- a byte other than 0 stands within the text
-within : (s : List ℕ) (i : ℕ) → (getD s i 0 ≡ 0 → ⊥) → i < length s
-within s i h = go (decLt i (length s))
-  where
-    go : Dec (i < length s) → i < length s
-    go (yes l) = l
-    go (no l) = absurd (h (List·getD-eq-default {A = ℕ} s 0 (omega arith)))
 
 -- no digit: no number
 no-digits : (most : ℕ) (s : List ℕ) (i : ℕ) → isDigit (getD s i 0) ≡ false → Natural.Bad ≡ digits most i (drop i s)
@@ -57,11 +48,11 @@ zero-negative most e (b ∷ s) = go (isDigit b)
     go true = refl
     go false = refl
 
--- z as the only value of its sign up to itself
-upTo : ℤ → Range
+-- a range that has z
+pub upTo : ℤ → Range
 upTo z = record { below = suc (mag z); least = 0; most = mag z }
 
-in-upTo : (z : ℤ) → InRange (upTo z) z
+pub in-upTo : (z : ℤ) → InRange (upTo z) z
 unfolding upTo
 in-upTo (pos v) = (omega arith, omega arith)
 in-upTo (negsuc v) = omega arith
@@ -69,7 +60,7 @@ in-upTo (negsuc v) = omega arith
 module _ (range : Range) (s : List ℕ) (at : ℕ) where
   -- neither a digit nor a minus: a plus, a separator, the end
   pub bad-start : isDigit (getD s at 0) ≡ false → (getD s at 0 ≡ 45 → ⊥) → fieldAt s at range ≡ Bad
-  bad-start n m = sym (field-plain s at range (ne-eqb (getD s at 0) 45 m) (no-digits (range .most) s at n) (unsigned-bad (range .least) refl))
+  bad-start n m = sym (field-plain s at range m (no-digits (range .most) s at n) (unsigned-bad (range .least) refl))
 
   pub bad-plus : getD s at 0 ≡ 43 → fieldAt s at range ≡ Bad
   bad-plus e = bad-start (no-digit (getD s at 0) (omega arith)) (omega arith)
@@ -81,24 +72,24 @@ module _ (range : Range) (s : List ℕ) (at : ℕ) where
 
   -- a minus and no digit
   pub bad-minus : getD s at 0 ≡ 45 → isDigit (getD s (at + 1) 0) ≡ false → fieldAt s at range ≡ Bad
-  bad-minus e n = sym (field-minus s at range (eq-eqb (getD s at 0) 45 e) (no-digits (range .below) s (at + 1) n) (negative-bad refl))
+  bad-minus e n = sym (field-minus s at range e (no-digits (range .below) s (at + 1) n) (negative-bad refl))
 
   -- a minus before zero, whatever follows
   pub bad-minus-zero : getD s at 0 ≡ 45 → getD s (at + 1) 0 ≡ 48 → fieldAt s at range ≡ Bad
   bad-minus-zero e z =
-      let h : at + 1 < length s = within s (at + 1) (omega arith) in
+      let h : at + 1 < length s = byte-within s (at + 1) (omega arith) in
       let n : more (range .below) 0 (at + 1 + 1) (drop (at + 1 + 1) s) ≡ digits (range .below) (at + 1) (drop (at + 1) s) =
       digits-on (range .below) s (at + 1) h (ap isDigit z ∙ digit-is 0 (omega arith)) 0 (omega arith) (omega arith) in
-      sym (field-minus s at range (eq-eqb (getD s at 0) 45 e) n (sym (zero-negative (range .below) (at + 1 + 1) (drop (at + 1 + 1) s))))
+      sym (field-minus s at range e n (sym (zero-negative (range .below) (at + 1 + 1) (drop (at + 1 + 1) s))))
 
   -- a zero with a digit behind it
   pub bad-zero : getD s at 0 ≡ 48 → isDigit (getD s (at + 1) 0) ≡ true → fieldAt s at range ≡ Bad
   bad-zero z d =
-      let h : at < length s = within s at (omega arith) in
+      let h : at < length s = byte-within s at (omega arith) in
       let n : Natural.Bad ≡ digits (range .most) at (drop at s) =
       sym (zero-more (range .most) (at + 1) (drop (at + 1) s) (ap isDigit (head-of s (at + 1)) ∙ d))
       ∙ digits-on (range .most) s at h (ap isDigit z ∙ digit-is 0 (omega arith)) 0 (omega arith) (omega arith) in
-      sym (field-plain s at range (ne-eqb (getD s at 0) 45 (omega arith)) n (unsigned-bad (range .least) refl))
+      sym (field-plain s at range (omega arith) n (unsigned-bad (range .least) refl))
 
   -- "a number out of its range is not of the form"
   pub bad-out : (z : ℤ) (e : ℕ) → Stands (plain z) s at e → isDigit (getD s e 0) ≡ false → (InRange range z → ⊥) → fieldAt s at range ≡ Bad

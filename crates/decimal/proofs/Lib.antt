@@ -4,6 +4,7 @@ pub mod Digits
 pub mod Steps
 pub mod Reading
 pub mod Values
+pub mod Tabs
 pub mod Writing
 pub mod Putting
 pub mod Back

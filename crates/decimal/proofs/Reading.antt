@@ -19,7 +19,7 @@ use Rattle.decimal.specs.declared.read.Field.{Field}
 use Rattle.decimal.specs.declared.read.Field.the-variants.{Plus, Minus, Bad}
 use Rattle.decimal.specs.declared.read.Natural.{Natural}
 use Rattle.decimal.proofs.Digits.{decimal-small, decimal-snoc, decimal-some, decimal-head, decimal-first, decimal-digits, worth, worth-le, worth-decimal, digit-above, digit-below, Digits, none, also}
-use Rattle.decimal.proofs.Steps.{minus-within}
+use Rattle.decimal.proofs.Steps.{byte-within}
 
 -- no digit stands at the head
 abbrev pub Stops : List ℕ → Type 0
@@ -162,6 +162,13 @@ after s t rest i q = sym (drop-drop (length t) i s) ∙ ap (drop (length t)) q �
 pub head-of : (s : List ℕ) (i : ℕ) → getD (drop i s) 0 0 ≡ getD s i 0
 head-of s i = getD-drop i s 0 0 ∙ ap (λ (k : ℕ). getD s k 0) (add-zero i)
 
+-- and of the text that stands there
+pub stands-head : (s t : List ℕ) {at e : ℕ} → 1 ≤ length t → Stands t s at e → getD s at 0 ≡ getD t 0 0
+stands-head s t {at = at} {e = e} h r = sym (head-of s at) ∙ ap (λ (l : List ℕ). getD l 0 0) (r .here) ∙ List·getD-append t (drop e s) 0 0 h
+
+pub stands-within : (s t : List ℕ) {at e : ℕ} → 1 ≤ length t → Stands t s at e → at < length s
+stands-within s t {at = at} {e = e} h r = omega (arith, length-drop at s, ap length (r .here), length-append t (drop e s))
+
 -- a text that stands before no digit
 module _ (range : Range) (s : List ℕ) (at : ℕ) (z : ℤ) where
   pub reads-at : (rest : List ℕ) → drop at s ≡ plain z ++ rest → Stops rest → InRange range z → Reads range s at z (at + length (plain z))
@@ -197,7 +204,7 @@ module _ (range : Range) (s : List ℕ) (at : ℕ) where
           subst (λ (m : ℕ). Reads range s at (pos m) e) same (subst (λ (m : ℕ). Reads range s at (pos v) m) (sym (run .place) ∙ here) r)
 
   -- digits behind a minus
-  negative-reads : eqb (getD s at 0) 45 ≡ true → (n : Natural) → digits (range .below) (at + 1) (drop (at + 1) s) ≡ n → (z : ℤ) (e : ℕ) → negative n ≡ number z e → Reads range s at z e
+  negative-reads : getD s at 0 ≡ 45 → (n : Natural) → digits (range .below) (at + 1) (drop (at + 1) s) ≡ n → (z : ℤ) (e : ℕ) → negative n ≡ number z e → Reads range s at z e
   unfolding negative
   negative-reads m Natural.Bad d z e q = absurd-field z e q
   negative-reads m (Natural.Number zero f) d z e q = absurd-field z e q
@@ -207,8 +214,8 @@ module _ (range : Range) (s : List ℕ) (at : ℕ) where
       let run : Run (range .below) (at + 1) (drop (at + 1) s) (suc v) f = digits-reads (range .below) (at + 1) (drop (at + 1) s) (suc v) f d in
       let here : f ≡ e = cc in
       let text : drop at s ≡ 45 ∷ (decimal (suc v) ++ run .rest) =
-      drop-cons s at 0 (minus-within s at m)
-      ∙ ap (λ (b : ℕ). b ∷ drop (suc at) s) (eqb-true (getD s at 0) 45 m)
+      drop-cons s at 0 (byte-within s at (omega arith))
+      ∙ ap (λ (b : ℕ). b ∷ drop (suc at) s) m
       ∙ ap (λ (l : List ℕ). 45 ∷ l) (ap (λ (k : ℕ). drop k s) (sym (add-one at)) ∙ run .split) in
       let r : Reads range s at (negsuc v) (at + length (plain (negsuc v))) = reads-at range s at (negsuc v) (run .rest) text (run .stops) (run .small) in
       let place : at + length (plain (negsuc v)) ≡ e = omega (arith, run .place) in
@@ -222,12 +229,8 @@ module _ (range : Range) (s : List ℕ) (at : ℕ) where
       go : (m : Bool) → eqb (getD s at 0) 45 ≡ m
           → cond m (negative (digits (range .below) (at + 1) (drop (at + 1) s))) (unsigned (range .least) (digits (range .most) at (drop at s))) ≡ number z e
           → Reads range s at z e
-      go true m q = negative-reads m (digits (range .below) (at + 1) (drop (at + 1) s)) refl z e q
+      go true m q = negative-reads (eqb-true (getD s at 0) 45 m) (digits (range .below) (at + 1) (drop (at + 1) s)) refl z e q
       go false m q = unsigned-reads (digits (range .most) at (drop at s)) refl z e q
-
-  -- the first byte of what stands at a place
-  stands-head : (t : List ℕ) (e : ℕ) → 1 ≤ length t → Stands t s at e → getD s at 0 ≡ getD t 0 0
-  stands-head t e h r = sym (head-of s at) ∙ ap (λ (l : List ℕ). getD l 0 0) (r .here) ∙ List·getD-append t (drop e s) 0 0 h
 
   stops-at : (e : ℕ) → isDigit (getD s e 0) ≡ false → Stops (drop e s)
   stops-at e n = ap isDigit (head-of s e) ∙ n
@@ -236,12 +239,12 @@ module _ (range : Range) (s : List ℕ) (at : ℕ) where
   pub field-read : (z : ℤ) (e : ℕ) → Reads range s at z e → fieldAt s at range ≡ number z e
   unfolding fieldAt unsigned negative
   field-read (pos v) e r =
-      let first : getD s at 0 ≡ getD (decimal v) 0 0 = stands-head (decimal v) e (decimal-some v) (r .stands) in
+      let first : getD s at 0 ≡ getD (decimal v) 0 0 = stands-head s (decimal v) (decimal-some v) (r .stands) in
       let plain : eqb (getD s at 0) 45 ≡ false = ne-eqb (getD s at 0) 45 (omega (arith, decimal-head v, first)) in
       let run : digits (range .most) at (decimal v ++ drop e s) ≡ Natural.Number v (at + length (decimal v)) = digits-read (range .most) at (drop e s) (stops-at e (r .whole)) v (r .within .1) in
       rw (plain, r .stands .here, run, le-leb (range .least) v (r .within .0), r .stands .ends)
   field-read (negsuc v) e r =
-      let first : getD s at 0 ≡ 45 = stands-head (45 ∷ decimal (suc v)) e (omega arith) (r .stands) in
+      let first : getD s at 0 ≡ 45 = stands-head s (45 ∷ decimal (suc v)) (omega arith) (r .stands) in
       let minus : eqb (getD s at 0) 45 ≡ true = eq-eqb (getD s at 0) 45 first in
       let left : drop (at + 1) s ≡ decimal (suc v) ++ drop e s = after s (45 ∷ []) (decimal (suc v) ++ drop e s) at (r .stands .here) in
       let run : digits (range .below) (at + 1) (decimal (suc v) ++ drop e s) ≡ Natural.Number (suc v) (at + 1 + length (decimal (suc v))) = digits-read (range .below) (at + 1) (drop e s) (stops-at e (r .whole)) (suc v) (r .within) in

@@ -6,8 +6,8 @@ use native.Mathlib.Omega.{arith}
 use mathlib.Core.Path.{_≡_, refl, ap, _∙_}
 use mathlib.Core.Bool.{true, false}
 use mathlib.Core.List.{List}
-use borrow.Author.Tests.{le-leb, lt-leb, eq-eqb, ne-eqb, eqb-true}
-use lib.Dec.{leb, eqb}
+use borrow.Author.Tests.{le-leb, lt-leb, eq-eqb, ne-eqb}
+use lib.Dec.{leb}
 use lib.ListN.{length, getD, drop, drop-of-length-le, List·getD-eq-default}
 use lib.Seq.{drop-cons}
 use Rattle.decimal.specs.Text.{isDigit, decimal}
@@ -94,23 +94,21 @@ module _ (most : ℕ) (s : List ℕ) (at : ℕ) where
 
 -- ---- the field
 
--- a minus stands within the text
-pub minus-within : (s : List ℕ) (at : ℕ) → eqb (getD s at 0) 45 ≡ true → at < length s
-minus-within s at e = go (decLt at (length s))
+-- a byte other than 0 stands within the text
+pub byte-within : (s : List ℕ) (at : ℕ) → (getD s at 0 ≡ 0 → ⊥) → at < length s
+byte-within s at h = go (decLt at (length s))
   where
     go : Dec (at < length s) → at < length s
-    go (yes h) = h
-    go (no h) =
-        let g : getD s at 0 ≡ 0 = List·getD-eq-default {A = ℕ} s 0 (omega arith) in
-        absurd (omega (arith, eqb-true (getD s at 0) 45 e))
+    go (yes l) = l
+    go (no l) = absurd (h (List·getD-eq-default {A = ℕ} s 0 (omega arith)))
 
 module _ (s : List ℕ) (at : ℕ) (range : Range) where
-  pub field-minus : {n : Natural} {f : Field} → eqb (getD s at 0) 45 ≡ true
+  pub field-minus : {n : Natural} {f : Field} → getD s at 0 ≡ 45
       → n ≡ digits (range .below) (at + 1) (drop (at + 1) s) → f ≡ negative n → f ≡ fieldAt s at range
   unfolding fieldAt
-  field-minus m p q = q ∙ rw (p, m)
+  field-minus m p q = q ∙ rw (p, eq-eqb (getD s at 0) 45 m)
 
-  pub field-plain : {n : Natural} {f : Field} → eqb (getD s at 0) 45 ≡ false
+  pub field-plain : {n : Natural} {f : Field} → (getD s at 0 ≡ 45 → ⊥)
       → n ≡ digits (range .most) at (drop at s) → f ≡ unsigned (range .least) n → f ≡ fieldAt s at range
   unfolding fieldAt
-  field-plain m p q = q ∙ rw (p, m)
+  field-plain m p q = q ∙ rw (p, ne-eqb (getD s at 0) 45 m)

@@ -14,7 +14,7 @@ use mir.Syntax.{w32}
 use mir.Val.{Fits, SFits, toZ, ofZ}
 use mir.Facts.{toZ-pos, toZ-neg, toZ-ofZ}
 use Rattle.decimal.specs.Text.{decimal, plain}
-use Rattle.decimal.specs.Read.{fieldAt, asNatural, naturalAt, naturals, asSigned, signedAt, values, number, Reads}
+use Rattle.decimal.specs.Read.{fieldAt, asNatural, naturalAt, naturals, asSigned, signedAt, values, number, InRange, Reads}
 use Rattle.decimal.specs.Write.{signOf}
 use Rattle.decimal.specs.declared.read.Field.{Field}
 use Rattle.decimal.specs.declared.read.Field.the-variants.{Plus, Minus, Bad}
@@ -53,6 +53,10 @@ module _ (s : List ℕ) (at least most : ℕ) where
   )
 
 -- ---- signed values
+
+pub value-small : (z : ℤ) → InRange values z → mag z < 2147483648
+value-small (pos v) h = omega arith
+value-small (negsuc v) h = h
 
 -- the machine's `!`
 pub flip : (k : ℕ) → k < 2147483648 → toZ w32 (4294967295 - k) ≡ negsuc k

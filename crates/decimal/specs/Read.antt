@@ -68,6 +68,23 @@ asSigned Bad = Signed.Bad
 unfoldable pub signedAt : List ℕ → ℕ → Signed
 signedAt s at = asSigned (fieldAt s at values)
 
+-- ---- behind a tab
+
+-- what is read behind the tab (9) at a place, or what is answered where there is no tab
+abbrev pub behindTab : {A : Type 0} → List ℕ → ℕ → A → A → A
+behindTab s at there no-tab = cond (eqb (getD s at 0) 9) there no-tab
+
+unfoldable pub naturalBehindTab : List ℕ → ℕ → ℕ → ℕ → Natural
+naturalBehindTab s at least most = behindTab s at (naturalAt s (at + 1) least most) Natural.Bad
+
+unfoldable pub signedBehindTab : List ℕ → ℕ → Signed
+signedBehindTab s at = behindTab s at (signedAt s (at + 1)) Signed.Bad
+
+-- what follows a number and the place behind it, or what is answered where there is none
+unfoldable pub onNumber : {A : Type 0} → Natural → (ℕ → ℕ → A) → A → A
+onNumber (Natural.Number v e) f no-number = f v e
+onNumber Natural.Bad f no-number = no-number
+
 -- ---- what the theorems say of a reading
 
 -- the answer of the value z that ends before e
@@ -90,3 +107,8 @@ pub record Reads (range : Range) (s : List ℕ) (at : ℕ) (z : ℤ) (e : ℕ) :
   pub stands : Stands (plain z) s at e
   pub within : InRange range z
   pub whole : isDigit (getD s e 0) ≡ false
+
+-- the value z stands in s behind the tab at a place, and ends at e
+pub record Tabbed (range : Range) (s : List ℕ) (at : ℕ) (z : ℤ) (e : ℕ) : Type 0 where
+  pub tab : getD s at 0 ≡ 9
+  pub reads : Reads range s (at + 1) z e

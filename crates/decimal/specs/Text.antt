@@ -25,3 +25,7 @@ decimal n = spelt (suc n) n
 abbrev pub plain : ℤ → List ℕ
 plain (pos n) = decimal n
 plain (negsuc n) = 45 ∷ decimal (suc n)
+
+-- a field of a line: one tab (9), and a number in its plain form
+abbrev pub field : ℤ → List ℕ
+field z = 9 ∷ plain z

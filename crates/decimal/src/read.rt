@@ -1,12 +1,13 @@
 // Reading a number at a place of a text.
 ghost use Prim.Native.Nat.{_+_, _-_, _*_};
 ghost use mathlib.Core.Path.{_≡_};
-ghost use lib.Dec.{leb, eqb};
+ghost use lib.Dec.{leb};
 ghost use lib.ListN.{getD, drop};
 ghost use Rattle.decimal.specs.Text.{isDigit};
-ghost use Rattle.decimal.specs.Read.{more, digits, unsigned, negative, fieldAt, naturalAt, signedAt};
+ghost use Rattle.decimal.specs.Read.{more, digits, unsigned, negative, fieldAt, naturalAt, signedAt, naturalBehindTab, signedBehindTab};
 use crate::MINUS;
 use crate::NINE;
+use crate::TAB;
 use crate::ZERO;
 
 // The values from least to most and, where below is not 0, those from -below to -1.
@@ -47,7 +48,7 @@ pub enum Signed {
 pub fn field_at(s: &[u8], at: usize, range: Range) -> Field
     ensures { λ r. ⌜ r ≡ fieldAt (now (s .entry)) at range ⌝ }
 {
-    if minus_at(s, at) {
+    if byte_at(s, at) == MINUS {
         return behind_minus(digits_at(s, at + 1, range.below));
     }
     with_no_minus(range.least, digits_at(s, at, range.most))
@@ -81,6 +82,36 @@ pub fn signed_at(s: &[u8], at: usize) -> Signed
         Field::Minus(v, e) => Signed::Number(!(v as i32), e),
         Field::Bad => Signed::Bad,
     }
+}
+
+// A number from least to most, behind the tab at a place.
+pub fn natural_behind_tab(s: &[u8], at: usize, least: u64, most: u64) -> Natural
+    ensures { λ r. ⌜ r ≡ naturalBehindTab (now (s .entry)) at least most ⌝ }
+{
+    if byte_at(s, at) == TAB {
+        return natural_at(s, at + 1, least, most);
+    }
+    Natural::Bad
+}
+
+// Any signed 32-bit number, behind the tab at a place.
+pub fn signed_behind_tab(s: &[u8], at: usize) -> Signed
+    ensures { λ r. ⌜ r ≡ signedBehindTab (now (s .entry)) at ⌝ }
+{
+    if byte_at(s, at) == TAB {
+        return signed_at(s, at + 1);
+    }
+    Signed::Bad
+}
+
+// The byte at a place. Past the end stands 0: no digit, no minus, no tab, no newline.
+pub fn byte_at(s: &[u8], at: usize) -> u8
+    ensures { λ r. ⌜ r ≡ getD (now (s .entry)) at 0 ⌝ }
+{
+    if at < s.len() {
+        return s[at];
+    }
+    0
 }
 
 fn with_no_minus(least: u64, n: Natural) -> Field
@@ -152,15 +183,6 @@ fn more_digits(s: &[u8], from: usize, first: u64, most: u64) -> Natural
         i += 1;
     }
     Natural::Number(v, i)
-}
-
-fn minus_at(s: &[u8], at: usize) -> bool
-    ensures { λ r. ⌜ r ≡ eqb (getD (now (s .entry)) at 0) 45 ⌝ }
-{
-    if at < s.len() {
-        return s[at] == MINUS;
-    }
-    false
 }
 
 fn is_digit(b: u8) -> bool

@@ -4,11 +4,11 @@ use Prim.Native.Nat.{ℕ}
 use mathlib.Core.Path.{_≡_, refl}
 use mathlib.Core.List.{List, [], _∷_}
 use Rattle.decimal.specs.Text.{isDigit, spelt, decimal}
-use Rattle.decimal.specs.Read.{more, digits, unsigned, negative, fieldAt, asNatural, naturalAt}
+use Rattle.decimal.specs.Read.{more, digits, unsigned, negative, fieldAt, asNatural, naturalAt, naturalBehindTab, onNumber}
 use Rattle.units.specs.Bounds.{triple}
 use Rattle.records.specs.declared.Record.the-variants.{Start, Tune, Read, Write, Commit, Abort}
 use Rattle.history.specs.declared.Line.the-variants.{Taken, Bad, End}
-use Rattle.history.specs.Line.{numberAt, onNumber, ended, tuneAt, readAt, writeAt, behindName, lineAt}
+use Rattle.history.specs.Line.{ended, tuneAt, readAt, writeAt, behindName, lineAt}
 use Rattle.history.specs.Text.{textOf}
 use Rattle.history.specs.Records.{whole, behind, onLine, recordsFrom, recordsOf}
 
@@ -30,7 +30,7 @@ pub ranges :
     × (lineAt (textOf (Write 1 64)) 0 ≡ Bad)
     × (lineAt (textOf (Commit 0)) 0 ≡ Bad)
     × (lineAt (textOf (Abort 0)) 0 ≡ Bad)
-unfolding lineAt behindName tuneAt readAt writeAt ended onNumber numberAt naturalAt asNatural fieldAt digits more unsigned negative decimal spelt isDigit textOf
+unfolding lineAt behindName tuneAt readAt writeAt ended onNumber naturalBehindTab naturalAt asNatural fieldAt digits more unsigned negative decimal spelt isDigit textOf
 ranges = (refl, refl, refl, refl, refl, refl, refl, refl, refl, refl, refl, refl, refl, refl, refl, refl, refl)
 
 -- the empty text, an empty line, `c 1` unended, with two tabs, with a space for the tab, with a leading zero, with a tab behind it, with a
@@ -46,7 +46,7 @@ pub forms :
     × (lineAt (99 ∷ 9 ∷ 49 ∷ 9 ∷ 49 ∷ 10 ∷ []) 0 ≡ Bad)
     × (lineAt (119 ∷ 9 ∷ 49 ∷ 10 ∷ []) 0 ≡ Bad)
     × (lineAt (120 ∷ 9 ∷ 49 ∷ 10 ∷ []) 0 ≡ Bad)
-unfolding lineAt behindName tuneAt readAt writeAt ended onNumber numberAt naturalAt asNatural fieldAt digits more unsigned negative isDigit
+unfolding lineAt behindName tuneAt readAt writeAt ended onNumber naturalBehindTab naturalAt asNatural fieldAt digits more unsigned negative isDigit
 forms = (refl, refl, refl, refl, refl, refl, refl, refl, refl, refl)
 
 -- `s 1`, `s 2`, `w 1 5`, `c 1`, `r 2 5 1`, `c 2`
@@ -55,5 +55,5 @@ worked =
     115 ∷ 9 ∷ 49 ∷ 10 ∷ 115 ∷ 9 ∷ 50 ∷ 10 ∷ 119 ∷ 9 ∷ 49 ∷ 9 ∷ 53 ∷ 10 ∷ 99 ∷ 9 ∷ 49 ∷ 10 ∷ 114 ∷ 9 ∷ 50 ∷ 9 ∷ 53 ∷ 9 ∷ 49 ∷ 10 ∷ 99 ∷ 9 ∷ 50 ∷ 10 ∷ []
 
 pub worked-records : recordsOf worked ≡ whole (Start 1 ∷ Start 2 ∷ Write 1 5 ∷ Commit 1 ∷ Read 2 5 1 ∷ Commit 2 ∷ [])
-unfolding recordsFrom behind onLine lineAt behindName tuneAt readAt writeAt ended onNumber numberAt naturalAt asNatural fieldAt digits more unsigned negative isDigit
+unfolding recordsFrom behind onLine lineAt behindName tuneAt readAt writeAt ended onNumber naturalBehindTab naturalAt asNatural fieldAt digits more unsigned negative isDigit
 worked-records = refl

@@ -1,7 +1,6 @@
 -- A line is read as a record exactly if the record's text stands there and each of its numbers is in its range. So a record has one text,
 -- and a text one record.
-use Prim.Native.Nat.{ℕ, suc, _+_, _≤_, _<_}
-use native.Mathlib.Numerals.{add-one}
+use Prim.Native.Nat.{ℕ, _+_, _≤_, _<_}
 use native.Mathlib.Decide.{decLt}
 use native.Mathlib.Omega.{arith}
 use mathlib.Core.Path.{_≡_, refl, sym, ap, _∙_, subst}
@@ -11,21 +10,19 @@ use mathlib.Core.List.{List, [], _∷_, _++_, append-assoc, append-nil}
 use borrow.Author.Tests.{le-leb, lt-leb, leb-true, eq-eqb, eqb-true}
 use lib.Dec.{leb, eqb}
 use lib.IntN.{pos}
-use lib.ListN.{length, getD, drop, length-append, length-drop}
-use lib.Seq.{drop-cons}
-use Rattle.decimal.specs.Text.{isDigit, decimal}
-use Rattle.decimal.specs.Read.{naturals, Stands, Reads}
+use lib.ListN.{length, getD, drop}
+use Rattle.decimal.specs.Text.{isDigit, field}
+use Rattle.decimal.specs.Read.{naturals, naturalBehindTab, onNumber, Stands, Tabbed}
 use Rattle.decimal.specs.declared.read.Natural.{Natural}
-use Rattle.decimal.proofs.Reading.{after, head-of, reads-at}
-use Rattle.decimal.proofs.Values.{natural-exactly}
+use Rattle.decimal.proofs.Reading.{after, stands-head, stands-within}
+use Rattle.decimal.proofs.Tabs.{stands-then, stands-behind, byte-stands, natural-tabbed, tabbed-stands, tabbed-at, Took, number-took}
 use Rattle.units.specs.Bounds.{triple}
 use Rattle.records.specs.declared.Record.{Record}
 use Rattle.records.specs.declared.Record.the-variants.{Start, Tune, Read, Write, Commit, Abort}
 use Rattle.history.specs.declared.Line.{Line}
 use Rattle.history.specs.declared.Line.the-variants.{Taken, Bad, End}
-use Rattle.history.specs.Line.{numberAt, onNumber, ended, tuneAt, readAt, writeAt, behindName, lineAt}
+use Rattle.history.specs.Line.{ended, tuneAt, readAt, writeAt, behindName, lineAt}
 use Rattle.history.specs.Text.{tab, newline, textOf, Within, InForm, Written}
-use Rattle.history.proofs.Steps.{byte-within, number-reads}
 
 no-line : {A : Type 0} {r : Record} {e : ℕ} → Bad ≡ Taken r e → A
 no-line q = let z : _≡_ {A = ℕ} 0 1 = cc in absurd (omega arith)
@@ -33,62 +30,25 @@ no-line q = let z : _≡_ {A = ℕ} 0 1 = cc in absurd (omega arith)
 no-end : {A : Type 0} {r : Record} {e : ℕ} → End ≡ Taken r e → A
 no-end q = let z : _≡_ {A = ℕ} 0 1 = cc in absurd (omega arith)
 
--- ---- texts that stand one behind the other
-
-module _ (s : List ℕ) where
-  join : {t u : List ℕ} {a b c : ℕ} → Stands t s a b → Stands u s b c → Stands (t ++ u) s a c
-  join {t} {u} {a} {b} {c} p q =
-      record {
-        ends = omega (arith, p .ends, q .ends, length-append t u);
-        here = p .here ∙ ap (λ (l : List ℕ). t ++ l) (q .here) ∙ sym (append-assoc t u (drop c s));
-      }
-
-  behind : (t u : List ℕ) {a c : ℕ} → Stands (t ++ u) s a c → Stands u s (a + length t) c
-  behind t u {a} {c} p =
-      record {
-        ends = omega (arith, p .ends, length-append t u);
-        here = after s t (u ++ drop c s) a (p .here ∙ append-assoc t u (drop c s));
-      }
-
-  byte-stands : (a b : ℕ) → 1 ≤ b → getD s a 0 ≡ b → Stands (b ∷ []) s a (a + 1)
-  byte-stands a b h e =
-      record {
-        ends = refl;
-        here = drop-cons s a 0 (byte-within s a (sym e) h) ∙ ap (λ (x : ℕ). x ∷ drop (suc a) s) e ∙ ap (λ (k : ℕ). b ∷ drop k s) (sym (add-one a));
-      }
-
-  head-is : (b : ℕ) (t : List ℕ) {a c : ℕ} → Stands (b ∷ t) s a c → getD s a 0 ≡ b
-  head-is b t {a} p = sym (head-of s a) ∙ ap (λ (l : List ℕ). getD l 0 0) (p .here)
-
-  within : (b : ℕ) (t : List ℕ) {a c : ℕ} → Stands (b ∷ t) s a c → a < length s
-  within b t {a} {c} p = omega (arith, length-drop a s, ap length (p .here))
-
 -- ---- a field
 
 module _ (s : List ℕ) (at least most : ℕ) (f : ℕ → ℕ → Line) where
   -- what was read
-  take : {C : Type 0} {r : Record} {e : ℕ} → onNumber (numberAt s at least most) f ≡ Taken r e
-      → ((v d : ℕ) → Within least most v → Stands (9 ∷ decimal v) s at d → f v d ≡ Taken r e → C) → C
-  unfolding onNumber
-  take {C} {r} {e} q k = go (numberAt s at least most) refl q
-    where
-      go : (n : Natural) → numberAt s at least most ≡ n → onNumber n f ≡ Taken r e → C
-      go Natural.Bad p q = no-line q
-      go (Natural.Number v d) p q =
-          let t : (getD s at 0 ≡ 9) × Reads (naturals least most) s (at + 1) (pos v) d = number-reads s at least most v d p in
-          k v d (t .1 .within) (join s (byte-stands s at 9 (omega arith) (t .0)) (t .1 .stands)) q
+  take : {C : Type 0} {r : Record} {e : ℕ} → onNumber (naturalBehindTab s at least most) f Bad ≡ Taken r e
+      → ((v d : ℕ) → Within least most v → Stands (field (pos v)) s at d → f v d ≡ Taken r e → C) → C
+  take {C} {r} {e} q k =
+      let t : Took Natural.Number (naturalBehindTab s at least most) f (Taken r e) = number-took (naturalBehindTab s at least most) f Bad (Taken r e) no-line q in
+      let n : Tabbed (naturals least most) s at (pos (t .v)) (t .e) = natural-tabbed s at least most (t .v) (t .e) .0 (t .is) in
+      k (t .v) (t .e) (n .reads .within) (tabbed-stands s at n) (t .goes)
 
   -- what stands there, before a byte that is no digit
   give : {l : Line} {e : ℕ} (v b : ℕ) (rest : List ℕ) → isDigit b ≡ false → Within least most v → Stands (tab v (b ∷ rest)) s at e
-      → ((d : ℕ) → Stands (b ∷ rest) s d e → f v d ≡ l) → onNumber (numberAt s at least most) f ≡ l
-  unfolding onNumber numberAt
+      → ((d : ℕ) → Stands (b ∷ rest) s d e → f v d ≡ l) → onNumber (naturalBehindTab s at least most) f Bad ≡ l
+  unfolding onNumber
   give {l} {e} v b rest n w p k =
-      let digits : Stands (decimal v ++ (b ∷ rest)) s (at + 1) e = behind s (9 ∷ []) (decimal v ++ (b ∷ rest)) p in
-      let left : Stands (b ∷ rest) s (at + 1 + length (decimal v)) e = behind s (decimal v) (b ∷ rest) digits in
-      let reads : Reads (naturals least most) s (at + 1) (pos v) (at + 1 + length (decimal v)) =
-      reads-at (naturals least most) s (at + 1) (pos v) ((b ∷ rest) ++ drop e s) (digits .here ∙ append-assoc (decimal v) (b ∷ rest) (drop e s)) n w in
-      rw (eq-eqb (getD s at 0) 9 (head-is s 9 (decimal v ++ (b ∷ rest)) p), natural-exactly s (at + 1) least most v (at + 1 + length (decimal v)) .1 reads)
-      (k (at + 1 + length (decimal v)) left)
+      let t : Tabbed (naturals least most) s at (pos v) (at + length (field (pos v))) =
+      tabbed-at s at (naturals least most) (pos v) ((b ∷ rest) ++ drop e s) (p .here ∙ append-assoc (field (pos v)) (b ∷ rest) (drop e s)) n w in
+      rw (natural-tabbed s at least most v (at + length (field (pos v))) .1 t) (k (at + length (field (pos v))) (stands-behind s (field (pos v)) (b ∷ rest) p))
 
 -- ---- the newline
 
@@ -106,7 +66,7 @@ module _ (s : List ℕ) (at : ℕ) (q : Record) where
 
   ended-give : {e : ℕ} → Stands newline s at e → ended s at q ≡ Taken q e
   unfolding ended
-  ended-give {e} p = rw (eq-eqb (getD s at 0) 10 (head-is s 10 [] p)) (ap (λ (k : ℕ). Taken q k) (sym (p .ends)))
+  ended-give {e} p = rw (eq-eqb (getD s at 0) 10 (stands-head s newline (omega arith) p)) (ap (λ (k : ℕ). Taken q k) (sym (p .ends)))
 
 -- ---- the letter
 
@@ -127,40 +87,40 @@ module _ (s : List ℕ) (at : ℕ) {r : Record} {e : ℕ} where
     made : (q : Record) (t : List ℕ) → textOf q ≡ b ∷ t → Stands t s (at + 1) e → InForm q → q ≡ r → Written s at r e
     made q t text p form same =
         subst (λ (x : Record). Written s at x e) same
-        (record { stands = subst (λ (l : List ℕ). Stands l s at e) (sym text) (join s (byte-stands s at b some letter) p); form = form })
+        (record { stands = subst (λ (l : List ℕ). Stands l s at e) (sym text) (stands-then s (byte-stands s at b some letter) p); form = form })
 
-  behind-take : (t d : ℕ) → Within 1 4294967295 t → Stands (9 ∷ decimal t) s (at + 1) d → behindName s (getD s at 0) t d ≡ Taken r e → Written s at r e
+  behind-take : (t d : ℕ) → Within 1 4294967295 t → Stands (field (pos t)) s (at + 1) d → behindName s (getD s at 0) t d ≡ Taken r e → Written s at r e
   unfolding behindName tuneAt readAt writeAt textOf InForm
   behind-take t d w p q =
       by-letter (getD s at 0) 115 q (λ h q.
       let z : (Start t ≡ r) × Stands newline s d e = ended-take s d (Start t) q in
-      made 115 (omega arith) h (Start t) (tab t newline) refl (join s p (z .1)) w (z .0)) (λ q.
+      made 115 (omega arith) h (Start t) (tab t newline) refl (stands-then s p (z .1)) w (z .0)) (λ q.
       by-letter (getD s at 0) 107 q (λ h q.
       take s d 1 65535 _ q (λ k1 a w1 p1 q. take s a 0 65535 _ q (λ k2 b w2 p2 q. take s b 0 65535 _ q (λ k3 c w3 p3 q.
       let z : (Tune t (triple k1 k2 k3) ≡ r) × Stands newline s c e = ended-take s c (Tune t (triple k1 k2 k3)) q in
       made 107 (omega arith) h (Tune t (triple k1 k2 k3)) (tab t (tab k1 (tab k2 (tab k3 newline)))) refl
-      (join s p (join s p1 (join s p2 (join s p3 (z .1))))) (w, (w1, (w2, w3))) (z .0))))) (λ q.
+      (stands-then s p (stands-then s p1 (stands-then s p2 (stands-then s p3 (z .1))))) (w, (w1, (w2, w3))) (z .0))))) (λ q.
       by-letter (getD s at 0) 114 q (λ h q.
       take s d 0 63 _ q (λ x a w1 p1 q. take s a 0 4294967295 _ q (λ y b w2 p2 q.
       let z : (Read t x y ≡ r) × Stands newline s b e = ended-take s b (Read t x y) q in
-      made 114 (omega arith) h (Read t x y) (tab t (tab x (tab y newline))) refl (join s p (join s p1 (join s p2 (z .1)))) (w, (w1, w2)) (z .0)))) (λ q.
+      made 114 (omega arith) h (Read t x y) (tab t (tab x (tab y newline))) refl (stands-then s p (stands-then s p1 (stands-then s p2 (z .1)))) (w, (w1, w2)) (z .0)))) (λ q.
       by-letter (getD s at 0) 119 q (λ h q.
       take s d 0 63 _ q (λ x a w1 p1 q.
       let z : (Write t x ≡ r) × Stands newline s a e = ended-take s a (Write t x) q in
-      made 119 (omega arith) h (Write t x) (tab t (tab x newline)) refl (join s p (join s p1 (z .1))) (w, w1) (z .0))) (λ q.
+      made 119 (omega arith) h (Write t x) (tab t (tab x newline)) refl (stands-then s p (stands-then s p1 (z .1))) (w, w1) (z .0))) (λ q.
       by-letter (getD s at 0) 99 q (λ h q.
       let z : (Commit t ≡ r) × Stands newline s d e = ended-take s d (Commit t) q in
-      made 99 (omega arith) h (Commit t) (tab t newline) refl (join s p (z .1)) w (z .0)) (λ q.
+      made 99 (omega arith) h (Commit t) (tab t newline) refl (stands-then s p (z .1)) w (z .0)) (λ q.
       by-letter (getD s at 0) 97 q (λ h q.
       let z : (Abort t ≡ r) × Stands newline s d e = ended-take s d (Abort t) q in
-      made 97 (omega arith) h (Abort t) (tab t newline) refl (join s p (z .1)) w (z .0)) (λ q. no-line q))))))
+      made 97 (omega arith) h (Abort t) (tab t newline) refl (stands-then s p (z .1)) w (z .0)) (λ q. no-line q))))))
 
   -- what is answered stands there
   pub line-reads : lineAt s at ≡ Taken r e → Written s at r e
   unfolding lineAt
   line-reads q = go (leb (length s) at) q
     where
-      go : (t : Bool) → cond t End (onNumber (numberAt s (at + 1) 1 4294967295) (λ t d. behindName s (getD s at 0) t d)) ≡ Taken r e → Written s at r e
+      go : (t : Bool) → cond t End (onNumber (naturalBehindTab s (at + 1) 1 4294967295) (λ t d. behindName s (getD s at 0) t d) Bad) ≡ Taken r e → Written s at r e
       go true q = no-end q
       go false q = take s (at + 1) 1 4294967295 (λ t d. behindName s (getD s at 0) t d) q (λ t d w p q. behind-take t d w p q)
 
@@ -170,8 +130,9 @@ module _ (s : List ℕ) (at : ℕ) where
       → ((d : ℕ) → Stands (b ∷ rest) s d e → behindName s letter t d ≡ l) → lineAt s at ≡ l
   unfolding lineAt
   opens {l} letter t b rest n w p k =
-      rw (lt-leb (length s) at (within s letter (tab t (b ∷ rest)) p), head-is s letter (tab t (b ∷ rest)) p)
-      (give s (at + 1) 1 4294967295 (λ t d. behindName s letter t d) t b rest n w (behind s (letter ∷ []) (tab t (b ∷ rest)) p) k)
+      let first : getD s at 0 ≡ letter = stands-head s (letter ∷ tab t (b ∷ rest)) (omega arith) p in
+      rw (lt-leb (length s) at (stands-within s (letter ∷ tab t (b ∷ rest)) (omega arith) p), first)
+      (give s (at + 1) 1 4294967295 (λ t d. behindName s letter t d) t b rest n w (stands-behind s (letter ∷ []) (tab t (b ∷ rest)) p) k)
 
   -- what stands there is answered
   pub line-read : (r : Record) (e : ℕ) → Written s at r e → lineAt s at ≡ Taken r e
@@ -203,7 +164,7 @@ isEnd (Taken r e) = false
 isEnd Bad = false
 isEnd End = true
 
-number-on : (n : Natural) (f : ℕ → ℕ → Line) → ((v e : ℕ) → isEnd (f v e) ≡ false) → isEnd (onNumber n f) ≡ false
+number-on : (n : Natural) (f : ℕ → ℕ → Line) → ((v e : ℕ) → isEnd (f v e) ≡ false) → isEnd (onNumber n f Bad) ≡ false
 unfolding onNumber
 number-on (Natural.Number v e) f h = h v e
 number-on Natural.Bad f h = refl
@@ -232,11 +193,11 @@ module _ (s : List ℕ) (at : ℕ) where
   unfolding lineAt
   end-exactly = (λ q. go (leb (length s) at) refl q, λ h. rw (le-leb (length s) at h))
     where
-      go : (t : Bool) → leb (length s) at ≡ t → cond t End (onNumber (numberAt s (at + 1) 1 4294967295) (λ t e. behindName s (getD s at 0) t e)) ≡ End → length s ≤ at
+      go : (t : Bool) → leb (length s) at ≡ t → cond t End (onNumber (naturalBehindTab s (at + 1) 1 4294967295) (λ t e. behindName s (getD s at 0) t e) Bad) ≡ End → length s ≤ at
       go true h q = leb-true (length s) at h
       go false h q =
-          let f : isEnd (onNumber (numberAt s (at + 1) 1 4294967295) (λ t e. behindName s (getD s at 0) t e)) ≡ false =
-          number-on (numberAt s (at + 1) 1 4294967295) (λ t e. behindName s (getD s at 0) t e) (λ t e. behind-on s (getD s at 0) t e) in
+          let f : isEnd (onNumber (naturalBehindTab s (at + 1) 1 4294967295) (λ t e. behindName s (getD s at 0) t e) Bad) ≡ false =
+          number-on (naturalBehindTab s (at + 1) 1 4294967295) (λ t e. behindName s (getD s at 0) t e) (λ t e. behind-on s (getD s at 0) t e) in
           let g : true ≡ false = sym (ap isEnd q) ∙ f in
           let z : _≡_ {A = ℕ} 0 1 = cc in
           absurd (omega arith)

@@ -5,32 +5,22 @@ use mathlib.Core.Bool.{cond}
 use mathlib.Core.List.{List}
 use lib.Dec.{eqb, leb}
 use lib.ListN.{length, getD}
-use Rattle.decimal.specs.Read.{naturalAt}
-use Rattle.decimal.specs.declared.read.Natural.{Natural}
+use Rattle.decimal.specs.Read.{naturalBehindTab, onNumber}
 use Rattle.units.specs.Bounds.{triple}
 use Rattle.records.specs.declared.Record.{Record}
 use Rattle.records.specs.declared.Record.the-variants.{Start, Tune, Read, Write, Commit, Abort}
 use Rattle.history.specs.declared.Line.{Line}
 use Rattle.history.specs.declared.Line.the-variants.{Taken, Bad, End}
 
--- a number from least to most, behind the tab (9) at a place
-unfoldable pub numberAt : List ℕ → ℕ → ℕ → ℕ → Natural
-numberAt s at least most = cond (eqb (getD s at 0) 9) (naturalAt s (at + 1) least most) Natural.Bad
-
--- what follows a number and the place behind it
-unfoldable pub onNumber : Natural → (ℕ → ℕ → Line) → Line
-onNumber (Natural.Number v e) f = f v e
-onNumber Natural.Bad f = Bad
-
 -- "Transaction numbers are 1 to 4,294,967,295", and 0 for the start version's; "Keys are 0 to 63"; bounds are "16-bit numbers"
 abbrev pub number : List ℕ → ℕ → ℕ → (ℕ → ℕ → Line) → Line
-number s at least f = onNumber (numberAt s at least 4294967295) f
+number s at least f = onNumber (naturalBehindTab s at least 4294967295) f Bad
 
 abbrev pub key : List ℕ → ℕ → (ℕ → ℕ → Line) → Line
-key s at f = onNumber (numberAt s at 0 63) f
+key s at f = onNumber (naturalBehindTab s at 0 63) f Bad
 
 abbrev pub bound : List ℕ → ℕ → ℕ → (ℕ → ℕ → Line) → Line
-bound s at least f = onNumber (numberAt s at least 65535) f
+bound s at least f = onNumber (naturalBehindTab s at least 65535) f Bad
 
 -- the newline (10), and the place of the next line
 unfoldable pub ended : List ℕ → ℕ → Record → Line

@@ -1,14 +1,15 @@
 -- The text of a record, and the form that document 01 gives it.
 use Prim.Native.Nat.{ℕ, _≤_}
 use mathlib.Core.List.{List, [], _∷_, _++_}
-use Rattle.decimal.specs.Text.{decimal}
+use lib.IntN.{pos}
+use Rattle.decimal.specs.Text.{field}
 use Rattle.decimal.specs.Read.{Stands}
 use Rattle.records.specs.declared.Record.{Record}
 use Rattle.records.specs.declared.Record.the-variants.{Start, Tune, Read, Write, Commit, Abort}
 
--- a tab and a number in the plain form, and what follows
+-- the field of a number, and what follows
 abbrev pub tab : ℕ → List ℕ → List ℕ
-tab v rest = 9 ∷ (decimal v ++ rest)
+tab v rest = field (pos v) ++ rest
 
 abbrev pub newline : List ℕ
 newline = 10 ∷ []

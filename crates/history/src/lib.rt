@@ -1,16 +1,13 @@
 // A line of a written history as a record: document 01, "Written histories".
 ghost use mathlib.Core.Path.{_≡_};
-ghost use lib.ListN.{getD};
-ghost use Rattle.history.specs.Line.{numberAt, ended, tuneAt, readAt, writeAt, behindName, lineAt};
+ghost use Rattle.history.specs.Line.{ended, tuneAt, readAt, writeAt, behindName, lineAt};
+use decimal::NEWLINE;
 use decimal::Natural;
-use decimal::natural_at;
+use decimal::byte_at;
+use decimal::natural_behind_tab;
 use records::Record;
 use units::Bounds;
 use units::limits;
-
-const TAB: u8 = b'\t';
-
-const NEWLINE: u8 = b'\n';
 
 // Transaction numbers are 1 to 4,294,967,295.
 const LAST_NAME: u64 = 4294967295;
@@ -37,7 +34,7 @@ pub fn line_at(text: &[u8], at: usize) -> Line
         return Line::End;
     }
     let letter = text[at];
-    let Natural::Number(t, e) = number_at(text, at + 1, 1, LAST_NAME) else {
+    let Natural::Number(t, e) = natural_behind_tab(text, at + 1, 1, LAST_NAME) else {
         return Line::Bad;
     };
     behind_name(text, letter, t as u32, e)
@@ -61,13 +58,13 @@ fn behind_name(text: &[u8], letter: u8, t: u32, at: usize) -> Line
 fn tune_at(text: &[u8], t: u32, at: usize) -> Line
     ensures { λ r. ⌜ r ≡ tuneAt (now (text .entry)) t at ⌝ }
 {
-    let Natural::Number(k1, a) = number_at(text, at, 1, LAST_BOUND) else {
+    let Natural::Number(k1, a) = natural_behind_tab(text, at, 1, LAST_BOUND) else {
         return Line::Bad;
     };
-    let Natural::Number(k2, b) = number_at(text, a, 0, LAST_BOUND) else {
+    let Natural::Number(k2, b) = natural_behind_tab(text, a, 0, LAST_BOUND) else {
         return Line::Bad;
     };
-    let Natural::Number(k3, e) = number_at(text, b, 0, LAST_BOUND) else {
+    let Natural::Number(k3, e) = natural_behind_tab(text, b, 0, LAST_BOUND) else {
         return Line::Bad;
     };
     let bounds = Bounds {
@@ -81,10 +78,10 @@ fn tune_at(text: &[u8], t: u32, at: usize) -> Line
 fn read_at(text: &[u8], t: u32, at: usize) -> Line
     ensures { λ r. ⌜ r ≡ readAt (now (text .entry)) t at ⌝ }
 {
-    let Natural::Number(key, a) = number_at(text, at, 0, LAST_KEY) else {
+    let Natural::Number(key, a) = natural_behind_tab(text, at, 0, LAST_KEY) else {
         return Line::Bad;
     };
-    let Natural::Number(source, e) = number_at(text, a, 0, LAST_NAME) else {
+    let Natural::Number(source, e) = natural_behind_tab(text, a, 0, LAST_NAME) else {
         return Line::Bad;
     };
     ended(text, e, Record::Read(t, key as u8, source as u32))
@@ -93,20 +90,10 @@ fn read_at(text: &[u8], t: u32, at: usize) -> Line
 fn write_at(text: &[u8], t: u32, at: usize) -> Line
     ensures { λ r. ⌜ r ≡ writeAt (now (text .entry)) t at ⌝ }
 {
-    let Natural::Number(key, e) = number_at(text, at, 0, LAST_KEY) else {
+    let Natural::Number(key, e) = natural_behind_tab(text, at, 0, LAST_KEY) else {
         return Line::Bad;
     };
     ended(text, e, Record::Write(t, key as u8))
-}
-
-// The number behind a tab.
-fn number_at(text: &[u8], at: usize, least: u64, most: u64) -> Natural
-    ensures { λ r. ⌜ r ≡ numberAt (now (text .entry)) at least most ⌝ }
-{
-    if byte_at(text, at) != TAB {
-        return Natural::Bad;
-    }
-    natural_at(text, at + 1, least, most)
 }
 
 // A record whose last field ends before a place.
@@ -117,14 +104,4 @@ fn ended(text: &[u8], at: usize, r: Record) -> Line
         return Line::Bad;
     }
     Line::Taken(r, at + 1)
-}
-
-// Past the end stands 0: no tab, no newline.
-fn byte_at(text: &[u8], at: usize) -> u8
-    ensures { λ r. ⌜ r ≡ getD (now (text .entry)) at 0 ⌝ }
-{
-    if at >= text.len() {
-        return 0;
-    }
-    text[at]
 }

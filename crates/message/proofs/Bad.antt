@@ -2,30 +2,20 @@
 use Prim.Native.Nat.{ℕ, zero, suc, _+_}
 use native.Mathlib.Omega.{arith}
 use mathlib.Core.Path.{_≡_, refl, sym, ap, _∙_, subst}
-use mathlib.Core.List.{List, [], _∷_, _++_, append-assoc}
+use mathlib.Core.List.{List, [], _∷_, _++_, append-assoc, append-nil}
 use lib.IntN.{ℤ, pos, negsuc}
-use lib.Signed.{mag}
 use lib.ListN.{length, getD, drop, length-append}
 use lib.Seq.{getD-append-seam}
 use Rattle.units.specs.declared.Item.{Item}
 use Rattle.lists.specs.Lists.{any}
-use Rattle.decimal.specs.Text.{isDigit, spelt, decimal, plain}
-use Rattle.decimal.specs.Read.{more, digits, unsigned, negative, fieldAt, asNatural, naturalAt, asSigned, signedAt, InRange}
-use Rattle.decimal.specs.declared.read.Range.{Range}
+use Rattle.decimal.specs.Text.{isDigit, spelt, decimal, plain, field}
+use Rattle.decimal.specs.Read.{more, digits, unsigned, negative, fieldAt, asNatural, naturalAt, asSigned, signedAt, naturalBehindTab, signedBehindTab, onNumber}
 use Rattle.decimal.proofs.Reading.{Stops, after, reads-at, reads-one}
-use Rattle.message.specs.Line.{field, itemText, itemsText, lineOf, distinct, InForm}
-use Rattle.message.specs.Read.{whole, bad, onNumber, onValue, onPiece, behindTab, valueBehindTab, itemAt, endsAt, closed, itemsAt, readLine}
+use Rattle.decimal.proofs.Bad.{upTo, in-upTo}
+use Rattle.message.specs.Line.{itemText, itemsText, lineOf, distinct, InForm}
+use Rattle.message.specs.Read.{whole, bad, onValue, onPiece, itemAt, endsAt, closed, itemsAt, readLine}
 use Rattle.message.proofs.Exactly.{bad-exactly}
 use Rattle.message.proofs.Items.{stops-items}
-
--- a range that has z
-around : ℤ → Range
-around z = record { below = suc (mag z); least = 0; most = mag z }
-
-in-around : (z : ℤ) → InRange (around z) z
-unfolding around
-in-around (pos v) = (omega arith, omega arith)
-in-around (negsuc v) = omega arith
 
 -- a field before no digit is one number's, and what is behind it is one text
 field-inj : (y z : ℤ) (t u : List ℕ) → field y ++ t ≡ field z ++ u → Stops t → Stops u → (y ≡ z) × (t ≡ u)
@@ -33,8 +23,8 @@ field-inj y z t u e m n =
     let s : List ℕ = plain y ++ t in
     let e₂ : plain y ++ t ≡ plain z ++ u = ap (drop 1) e in
     let one : (y ≡ z) × (0 + length (plain y) ≡ 0 + length (plain z)) =
-    reads-one (around y) (around z) s 0 y z (0 + length (plain y)) (0 + length (plain z))
-    (reads-at (around y) s 0 y t refl m (in-around y)) (reads-at (around z) s 0 z u e₂ n (in-around z)) in
+    reads-one (upTo y) (upTo z) s 0 y z (0 + length (plain y)) (0 + length (plain z))
+    (reads-at (upTo y) s 0 y t refl m (in-upTo y)) (reads-at (upTo z) s 0 z u e₂ n (in-upTo z)) in
     (one .0, sym (after s (plain y) t 0 refl) ∙ ap (λ (k : ℕ). drop k s) (one .1) ∙ after s (plain z) u 0 e₂)
 
 -- a version before no digit
@@ -80,16 +70,12 @@ line-inj stamp was is js t u e =
     let c : stamp ≡ was = cc in
     (c, b .0, b .1)
 
-no-more : (l : List ℕ) → l ++ [] ≡ l
-no-more [] = refl
-no-more (x ∷ xs) = ap (λ (l : List ℕ). x ∷ l) (no-more xs)
-
 -- the text of versions that are not of the form: a key twice, 17 of them, none, a number out of its range
 pub bad-form : (stamp : ℕ) (items : List Item) → (InForm stamp items → ⊥) → readLine (lineOf stamp items) ≡ bad
 bad-form stamp items n =
     bad-exactly (lineOf stamp items) .1
     (λ was js f e.
-    let a : (stamp ≡ was) × (items ≡ js) × (_≡_ {A = List ℕ} [] []) = line-inj stamp was items js [] [] (no-more (lineOf stamp items) ∙ e ∙ sym (no-more (lineOf was js))) in
+    let a : (stamp ≡ was) × (items ≡ js) × (_≡_ {A = List ℕ} [] []) = line-inj stamp was items js [] [] (append-nil (lineOf stamp items) ∙ e ∙ sym (append-nil (lineOf was js))) in
     n (subst (λ (k : ℕ). InForm k items) (sym (a .0)) (subst (InForm was) (sym (a .1)) f)))
 
 -- anything behind the newline, a second newline too
@@ -97,7 +83,7 @@ pub bad-behind : (stamp : ℕ) (items : List Item) (b : ℕ) (t : List ℕ) → 
 bad-behind stamp items b t =
     bad-exactly (lineOf stamp items ++ (b ∷ t)) .1
     (λ was js f e.
-    let a : (stamp ≡ was) × (items ≡ js) × (b ∷ t ≡ []) = line-inj stamp was items js (b ∷ t) [] (e ∙ sym (no-more (lineOf was js))) in
+    let a : (stamp ≡ was) × (items ≡ js) × (b ∷ t ≡ []) = line-inj stamp was items js (b ∷ t) [] (e ∙ sym (append-nil (lineOf was js))) in
     omega (arith, ap length (a .2)))
 
 -- a line is its newline behind all else
@@ -146,5 +132,5 @@ pub edges :
     × (readLine (112 ∷ 9 ∷ 51 ∷ 9 ∷ 53 ∷ 9 ∷ 49 ∷ 9 ∷ 48 ∷ 32 ∷ 10 ∷ []) ≡ bad)
     × (readLine (113 ∷ 9 ∷ 51 ∷ 9 ∷ 53 ∷ 9 ∷ 49 ∷ 9 ∷ 48 ∷ 10 ∷ []) ≡ bad)
     × (readLine [] ≡ bad)
-unfolding first run readLine itemsAt itemAt behindTab valueBehindTab onNumber onValue onPiece endsAt closed distinct any lineOf itemsText itemText naturalAt signedAt asNatural asSigned fieldAt digits more unsigned negative decimal spelt isDigit
+unfolding first run readLine itemsAt itemAt naturalBehindTab signedBehindTab onNumber onValue onPiece endsAt closed distinct any lineOf itemsText itemText naturalAt signedAt asNatural asSigned fieldAt digits more unsigned negative decimal spelt isDigit
 edges = (refl, refl, refl, refl, refl, refl, refl, refl, refl, refl, refl, refl, refl, refl, refl, refl, refl, refl)

@@ -9,20 +9,21 @@ use borrow.Author.Tests.{eq-eqb, ne-eqb, eqb-true}
 use lib.Dec.{eqb}
 use lib.IntN.{pos}
 use lib.ListN.{length, getD, drop, take, length-drop, drop-of-length-le}
-use lib.Seq.{drop-cons}
 use Rattle.units.specs.declared.Item.{Item}
 use Rattle.lists.specs.Lists.{Every, none, also}
-use Rattle.decimal.specs.Read.{naturals}
+use Rattle.decimal.specs.Text.{field}
+use Rattle.decimal.specs.Read.{naturals, naturalBehindTab, onNumber, Tabbed}
 use Rattle.decimal.specs.Write.{Puts}
+use Rattle.decimal.specs.declared.read.Natural.{Natural}
 use Rattle.decimal.proofs.Reading.{after, head-of}
+use Rattle.decimal.proofs.Tabs.{byte-stands, natural-tabbed, tabbed-stands, tabbed-at, Took, number-took}
 use Rattle.decimal.proofs.Putting.{puts-front}
-use Rattle.message.specs.Line.{field, itemText, itemsText, lineOf, InRanges, distinct, InForm, itemsOf}
-use Rattle.message.specs.Read.{Reading, whole, bad, onNumber, onPiece, behindTab, itemAt, endsAt, closed, itemsAt, readLine, messageOf}
+use Rattle.message.specs.Line.{itemText, itemsText, lineOf, InRanges, distinct, InForm, itemsOf}
+use Rattle.message.specs.Read.{Reading, whole, bad, onPiece, itemAt, endsAt, closed, itemsAt, readLine, messageOf}
 use Rattle.message.specs.declared.read.Form.{Form}
 use Rattle.message.specs.declared.read.Piece.{Piece}
 use Rattle.message.proofs.Batches.{batch-items}
-use Rattle.message.proofs.Fields.{byte-within, Tabbed, number-tabbed, tabbed-text, tabbed-at, Took, number-took}
-use Rattle.message.proofs.Items.{ItemAt, item-reads, item-back, TookPiece, piece-took, stops-items}
+use Rattle.message.proofs.Items.{ItemAt, item-reads, item-back, piece-took, stops-items}
 
 no-reading : {A : Type 0} (stamp : ℕ) (items : List Item) → bad ≡ whole stamp items → A
 no-reading stamp items q = let z : _≡_ {A = ℕ} 0 1 = cc in absurd (omega arith)
@@ -36,10 +37,8 @@ module _ (s : List ℕ) (at : ℕ) where
     where
       go : (t : Bool) → eqb (getD s at 0) 10 ≡ t → (u : Bool) → eqb (at + 1) (length s) ≡ u → (t && u) ≡ true → drop at s ≡ 10 ∷ []
       go true t true u h =
-          let l : length s ≤ suc at = omega (arith, eqb-true (at + 1) (length s) u) in
-          drop-cons s at 0 (byte-within s at 10 (omega arith) t)
-          ∙ ap (λ (b : ℕ). b ∷ drop (suc at) s) (eqb-true (getD s at 0) 10 t)
-          ∙ ap (λ (l : List ℕ). 10 ∷ l) (drop-of-length-le s l)
+          let l : length s ≤ at + 1 = omega (arith, eqb-true (at + 1) (length s) u) in
+          byte-stands s at 10 (omega arith) (eqb-true (getD s at 0) 10 t) .here ∙ ap (λ (l : List ℕ). 10 ∷ l) (drop-of-length-le s l)
       go true t false u h = let z : _≡_ {A = ℕ} 0 1 = cc in absurd (omega arith)
       go false t u v h = let z : _≡_ {A = ℕ} 0 1 = cc in absurd (omega arith)
 
@@ -113,9 +112,9 @@ module _ (stamp : ℕ) (s : List ℕ) (was : ℕ) (items : List Item) where
   unfolding itemsAt
   items-read zero at seen q = no-reading was items q
   items-read (suc left) at seen q =
-      let t : TookPiece (itemAt s at) (λ i e. cond (endsAt s e) (closed stamp (seen ++ (i ∷ []))) (itemsAt stamp left s e (seen ++ (i ∷ [])))) (whole was items) =
+      let t : Took Piece.At (itemAt s at) (λ i e. cond (endsAt s e) (closed stamp (seen ++ (i ∷ []))) (itemsAt stamp left s e (seen ++ (i ∷ [])))) (whole was items) =
       piece-took (itemAt s at) (λ i e. cond (endsAt s e) (closed stamp (seen ++ (i ∷ []))) (itemsAt stamp left s e (seen ++ (i ∷ [])))) bad (whole was items) (no-reading was items) q in
-      go (t .i) (t .e) (item-reads s at (t .i) (t .e) (t .is)) (endsAt s (t .e)) refl (items-read left (t .e) (seen ++ (t .i ∷ []))) (t .goes)
+      go (t .v) (t .e) (item-reads s at (t .v) (t .e) (t .is)) (endsAt s (t .e)) refl (items-read left (t .e) (seen ++ (t .v ∷ []))) (t .goes)
     where
       go : (i : Item) (e : ℕ) → ItemAt s at i e → (t : Bool) → endsAt s e ≡ t → (itemsAt stamp left s e (seen ++ (i ∷ [])) ≡ whole was items → ReadOn stamp left s e (seen ++ (i ∷ [])) was items)
           → cond t (closed stamp (seen ++ (i ∷ []))) (itemsAt stamp left s e (seen ++ (i ∷ []))) ≡ whole was items → ReadOn stamp (suc left) s at seen was items
@@ -154,9 +153,9 @@ module _ (s : List ℕ) (stamp : ℕ) (items : List Item) where
     where
       joined : (was e : ℕ) → eqb (getD s 0 0) 112 ≡ true → Tabbed (naturals 1 4294967295) s 1 (pos was) e → ReadOn was 16 s e [] stamp items → (s ≡ lineOf stamp items) × InForm stamp items
       joined was e h t r =
-          let first : s ≡ 112 ∷ drop 1 s = drop-cons s 0 0 (byte-within s 0 112 (omega arith) h) ∙ ap (λ (b : ℕ). b ∷ drop 1 s) (eqb-true (getD s 0 0) 112 h) in
+          let first : s ≡ 112 ∷ drop 1 s = byte-stands s 0 112 (omega arith) (eqb-true (getD s 0 0) 112 h) .here in
           let text : drop 1 s ≡ field (pos was) ++ itemsText items ++ (10 ∷ []) =
-          tabbed-text s 1 t
+          tabbed-stands s 1 t .here
           ∙ ap (λ (l : List ℕ). field (pos was) ++ l) (r .text ∙ ap (λ (l : List Item). itemsText l ++ (10 ∷ [])) (sym (r .all)))
           ∙ sym (append-assoc (field (pos was)) (itemsText items) (10 ∷ [])) in (
             first ∙ ap (λ (l : List ℕ). 112 ∷ l) text ∙ ap (λ (n : ℕ). 112 ∷ (field (pos n) ++ itemsText items ++ (10 ∷ []))) (r .same),
@@ -170,11 +169,11 @@ module _ (s : List ℕ) (stamp : ℕ) (items : List Item) where
             },
           )
 
-      go : (t : Bool) → eqb (getD s 0 0) 112 ≡ t → cond t (onNumber (behindTab s 1 1 4294967295) (λ was e. itemsAt was 16 s e []) bad) bad ≡ whole stamp items → (s ≡ lineOf stamp items) × InForm stamp items
+      go : (t : Bool) → eqb (getD s 0 0) 112 ≡ t → cond t (onNumber (naturalBehindTab s 1 1 4294967295) (λ was e. itemsAt was 16 s e []) bad) bad ≡ whole stamp items → (s ≡ lineOf stamp items) × InForm stamp items
       go true h q =
-          let t : Took (behindTab s 1 1 4294967295) (λ was e. itemsAt was 16 s e []) (whole stamp items) =
-          number-took (behindTab s 1 1 4294967295) (λ was e. itemsAt was 16 s e []) bad (whole stamp items) (no-reading stamp items) q in
-          joined (t .v) (t .e) h (number-tabbed s 1 1 4294967295 (t .v) (t .e) .0 (t .is)) (items-read (t .v) s stamp items 16 (t .e) [] (t .goes))
+          let t : Took Natural.Number (naturalBehindTab s 1 1 4294967295) (λ was e. itemsAt was 16 s e []) (whole stamp items) =
+          number-took (naturalBehindTab s 1 1 4294967295) (λ was e. itemsAt was 16 s e []) bad (whole stamp items) (no-reading stamp items) q in
+          joined (t .v) (t .e) h (natural-tabbed s 1 1 4294967295 (t .v) (t .e) .0 (t .is)) (items-read (t .v) s stamp items 16 (t .e) [] (t .goes))
       go false h q = no-reading stamp items q
 
 line-starts : (stamp : ℕ) (items : List Item) → eqb (getD (lineOf stamp items) 0 0) 112 ≡ true
@@ -194,7 +193,7 @@ line-back stamp items f =
     let t : Tabbed (naturals 1 4294967295) s 1 (pos stamp) (1 + length (field (pos stamp))) =
     tabbed-at s 1 (naturals 1 4294967295) (pos stamp) (itemsText items ++ (10 ∷ [])) text (stops-items items []) (f .early, f .late) in
     let left : drop (1 + length (field (pos stamp))) s ≡ itemsText items ++ (10 ∷ []) = after s (field (pos stamp)) (itemsText items ++ (10 ∷ [])) 1 text in
-    rw (line-starts stamp items, number-tabbed s 1 1 4294967295 stamp (1 + length (field (pos stamp))) .1 t)
+    rw (line-starts stamp items, natural-tabbed s 1 1 4294967295 stamp (1 + length (field (pos stamp))) .1 t)
     (items-back stamp s 16 (1 + length (field (pos stamp))) [] items left (f .ranges) (f .some) (f .few) (f .apart))
 
 -- the form of document 01, both ways

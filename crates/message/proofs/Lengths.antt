@@ -8,9 +8,10 @@ use lib.Signed.{mag}
 use lib.ListN.{length, length-append}
 use Rattle.units.specs.declared.Item.{Item}
 use Rattle.lists.specs.Lists.{Every, none, also}
+use Rattle.decimal.specs.Text.{field}
 use Rattle.decimal.proofs.Digits.{decimal-length, decimal-32, plain-32}
-use Rattle.message.proofs.Fields.{value-small}
-use Rattle.message.specs.Line.{field, itemText, itemsText, lineOf, InRanges, InForm}
+use Rattle.decimal.proofs.Values.{value-small}
+use Rattle.message.specs.Line.{itemText, itemsText, lineOf, InRanges, InForm}
 
 pub item-length : (i : Item) → length (itemText i) ≡ length (field (pos (i .key))) + length (field (pos (i .ordinal .0))) + length (field (i .value))
 unfolding itemText

@@ -10,13 +10,14 @@ use lib.Seq.{take-suc, take-all}
 use mir.Syntax.{w32}
 use mir.Val.{SFits}
 use Rattle.units.specs.declared.Item.{Item}
+use Rattle.decimal.specs.Text.{field}
 use Rattle.decimal.specs.Write.{put, wrote, Puts}
 use Rattle.decimal.specs.declared.write.Put.{Put}
 use Rattle.decimal.specs.declared.write.Put.the-variants.{Next, Full}
 use Rattle.decimal.proofs.Writing.{put-length}
 use Rattle.decimal.proofs.Putting.{puts-one, puts-next, puts-full, puts-length, puts-then}
 use Rattle.decimal.proofs.Digits.{decimal-32}
-use Rattle.message.specs.Line.{field, itemText, itemsText, lineOf, noItem}
+use Rattle.message.specs.Line.{itemText, itemsText, lineOf, noItem}
 use Rattle.message.proofs.Lengths.{item-length, item-longest}
 
 -- ---- a field

@@ -5,7 +5,7 @@ use native.Mathlib.Omega.{arith}
 use mathlib.Core.Path.{_≡_, refl, sym, ap, _∙_}
 use mathlib.Core.Bool.{Bool, true, false, cond}
 use mathlib.Core.List.{List, [], _∷_, _++_}
-use lib.Dec.{eqb}
+use borrow.Author.Tests.{eq-eqb, ne-eqb}
 use lib.IntN.{ℤ}
 use lib.ListN.{length, getD, drop, drop-of-length-le, length-append}
 use lib.Seq.{drop-cons}
@@ -14,36 +14,34 @@ use mir.Val.{SFits}
 use Rattle.units.specs.declared.Item.{Item}
 use Rattle.units.specs.declared.Batch.{Batch}
 use Rattle.lists.specs.Lists.{any}
+use Rattle.decimal.specs.Read.{naturalBehindTab, signedBehindTab, onNumber}
 use Rattle.decimal.specs.declared.read.Natural.{Natural}
 use Rattle.decimal.specs.declared.read.Signed.{Signed}
+use Rattle.decimal.proofs.Values.{value-small}
+use Rattle.decimal.proofs.Tabs.{signed-tabbed}
 use Rattle.message.specs.Line.{named, distinct, noItem, batchOf}
-use Rattle.message.specs.Read.{Reading, whole, bad, onNumber, onValue, onPiece, behindTab, valueBehindTab, itemAt, endsAt, closed, itemsAt, readLine, message, noMessage, messageOf, closedMessage, pushed}
+use Rattle.message.specs.Read.{Reading, whole, bad, onValue, onPiece, itemAt, endsAt, closed, itemsAt, readLine, message, noMessage, messageOf, closedMessage, pushed}
 use Rattle.message.specs.declared.read.Message.{Message}
 use Rattle.message.specs.declared.read.Piece.{Piece}
 use Rattle.message.proofs.Batches.{batch-items, batch-pushed}
-use Rattle.message.proofs.Fields.{number-tabbed, value-tabbed, value-small}
 
 -- ---- a version
 
--- a number that was read is at most the most
-pub number-small : (s : List ℕ) (at least most : ℕ) {n : Natural} {v e : ℕ} → n ≡ behindTab s at least most → n ≡ Natural.Number v e → v ≤ most
-number-small s at least most {v = v} {e = e} p q = number-tabbed s at least most v e .0 (sym p ∙ q) .reads .within .1
-
 -- a value that was read is one of 32 bits
-pub value-fits : (s : List ℕ) (at : ℕ) {n : Signed} {v : ℤ} {e : ℕ} → n ≡ valueBehindTab s at → n ≡ Signed.Number v e → SFits w32 v
-value-fits s at {v = v} {e = e} p q = record { sfits = value-small v (value-tabbed s at v e .0 (sym p ∙ q) .reads .within) }
+pub value-fits : (s : List ℕ) (at : ℕ) {n : Signed} {v : ℤ} {e : ℕ} → n ≡ signedBehindTab s at → n ≡ Signed.Number v e → SFits w32 v
+value-fits s at {v = v} {e = e} p q = record { sfits = value-small v (signed-tabbed s at v e .0 (sym p ∙ q) .reads .within) }
 
-module _ (s : List ℕ) (at : ℕ) {n : Natural} (p : n ≡ behindTab s at 0 63) where
+module _ (s : List ℕ) (at : ℕ) {n : Natural} (p : n ≡ naturalBehindTab s at 0 63) where
   pub item-no-key : n ≡ Natural.Bad → Piece.Bad ≡ itemAt s at
   unfolding itemAt onNumber
   item-no-key q = rw (← p, q)
 
-  module _ {k a : ℕ} (q : n ≡ Natural.Number k a) {m : Natural} (p₂ : m ≡ behindTab s a 1 4096) where
+  module _ {k a : ℕ} (q : n ≡ Natural.Number k a) {m : Natural} (p₂ : m ≡ naturalBehindTab s a 1 4096) where
     pub item-no-ordinal : m ≡ Natural.Bad → Piece.Bad ≡ itemAt s at
     unfolding itemAt onNumber
     item-no-ordinal q₂ = rw (← p, q, ← p₂, q₂)
 
-    module _ {o b : ℕ} (q₂ : m ≡ Natural.Number o b) {z : Signed} (p₃ : z ≡ valueBehindTab s b) where
+    module _ {o b : ℕ} (q₂ : m ≡ Natural.Number o b) {z : Signed} (p₃ : z ≡ signedBehindTab s b) where
       pub item-no-value : z ≡ Signed.Bad → Piece.Bad ≡ itemAt s at
       unfolding itemAt onNumber onValue
       item-no-value q₃ = rw (← p, q, ← p₂, q₂, ← p₃, q₃)
@@ -135,15 +133,15 @@ module _ (stamp : ℕ) (s : List ℕ) (from : ℕ) where
 -- ---- the line
 
 module _ (s : List ℕ) {r : Message} where
-  pub line-no-letter : eqb (getD s 0 0) 112 ≡ false → r ≡ noMessage → r ≡ messageOf (readLine s)
+  pub line-no-letter : (getD s 0 0 ≡ 112 → ⊥) → r ≡ noMessage → r ≡ messageOf (readLine s)
   unfolding readLine messageOf
-  line-no-letter h e = rw h e
+  line-no-letter h e = rw (ne-eqb (getD s 0 0) 112 h) e
 
-  module _ (h : eqb (getD s 0 0) 112 ≡ true) {n : Natural} (p : n ≡ behindTab s 1 1 4294967295) where
+  module _ (h : getD s 0 0 ≡ 112) {n : Natural} (p : n ≡ naturalBehindTab s 1 1 4294967295) where
     pub line-no-stamp : n ≡ Natural.Bad → r ≡ noMessage → r ≡ messageOf (readLine s)
     unfolding readLine messageOf onNumber
-    line-no-stamp q e = rw (h, ← p, q) e
+    line-no-stamp q e = rw (eq-eqb (getD s 0 0) 112 h, ← p, q) e
 
     pub line-goes : {v e : ℕ} → n ≡ Natural.Number v e → r ≡ messageOf (itemsAt v 16 s e []) → r ≡ messageOf (readLine s)
     unfolding readLine onNumber
-    line-goes q d = rw (h, ← p, q) d
+    line-goes q d = rw (eq-eqb (getD s 0 0) 112 h, ← p, q) d

@@ -5,18 +5,14 @@ use mathlib.Core.Path.{_≡_}
 use mathlib.Core.Bool.{Bool, true, not, _&&_}
 use mathlib.Core.List.{List, [], _∷_, _++_}
 use lib.Dec.{eqb}
-use lib.IntN.{ℤ, pos}
+use lib.IntN.{pos}
 use lib.ListN.{length, take, replicate}
 use lib.Seq.{sets}
 use Rattle.units.specs.declared.Item.{Item}
 use Rattle.units.specs.declared.Batch.{Batch}
 use Rattle.lists.specs.Lists.{any, Every}
-use Rattle.decimal.specs.Text.{plain}
+use Rattle.decimal.specs.Text.{field}
 use Rattle.decimal.specs.Read.{InRange, values}
-
--- one tab (9), and a number in its plain form
-abbrev pub field : ℤ → List ℕ
-field z = 9 ∷ plain z
 
 unfoldable pub itemText : Item → List ℕ
 itemText i = field (pos (i .key)) ++ field (pos (i .ordinal .0)) ++ field (i .value)

@@ -8,8 +8,7 @@ use lib.IntN.{ℤ}
 use lib.ListN.{length, getD, set}
 use Rattle.units.specs.declared.Item.{Item}
 use Rattle.units.specs.declared.Batch.{Batch}
-use Rattle.decimal.specs.Read.{naturalAt, signedAt}
-use Rattle.decimal.specs.declared.read.Natural.{Natural}
+use Rattle.decimal.specs.Read.{naturalBehindTab, signedBehindTab, onNumber}
 use Rattle.decimal.specs.declared.read.Signed.{Signed}
 use Rattle.message.specs.Line.{distinct, itemsOf, batchOf}
 use Rattle.message.specs.declared.read.Form.{Form}
@@ -21,11 +20,7 @@ pub data Reading : Type 0 where
   whole : ℕ → List Item → Reading
   bad : Reading
 
--- ---- what follows a number, a value, a version and the place behind it; or what is answered where there is none
-
-unfoldable pub onNumber : {A : Type 0} → Natural → (ℕ → ℕ → A) → A → A
-onNumber (Natural.Number v e) f no-number = f v e
-onNumber Natural.Bad f no-number = no-number
+-- ---- what follows a value, a version and the place behind it; or what is answered where there is none
 
 unfoldable pub onValue : {A : Type 0} → Signed → (ℤ → ℕ → A) → A → A
 onValue (Signed.Number v e) f no-value = f v e
@@ -37,18 +32,11 @@ onPiece Piece.Bad f no-piece = no-piece
 
 -- ---- the parts of a line
 
--- a number from least to most, behind the tab at a place
-unfoldable pub behindTab : List ℕ → ℕ → ℕ → ℕ → Natural
-behindTab s at least most = cond (eqb (getD s at 0) 9) (naturalAt s (at + 1) least most) Natural.Bad
-
-unfoldable pub valueBehindTab : List ℕ → ℕ → Signed
-valueBehindTab s at = cond (eqb (getD s at 0) 9) (signedAt s (at + 1)) Signed.Bad
-
 unfoldable pub itemAt : List ℕ → ℕ → Piece
 itemAt s at =
-    onNumber (behindTab s at 0 63) (λ k a.
-    onNumber (behindTab s a 1 4096) (λ o b.
-    onValue (valueBehindTab s b) (λ v e.
+    onNumber (naturalBehindTab s at 0 63) (λ k a.
+    onNumber (naturalBehindTab s a 1 4096) (λ o b.
+    onValue (signedBehindTab s b) (λ v e.
     Piece.At (record { key = k; ordinal = record { 0 = o }; value = v }) e)
     Piece.Bad) Piece.Bad) Piece.Bad
 
@@ -68,7 +56,7 @@ itemsAt stamp (suc left) s at seen =
     bad
 
 unfoldable pub readLine : List ℕ → Reading
-readLine s = cond (eqb (getD s 0 0) 112) (onNumber (behindTab s 1 1 4294967295) (λ stamp e. itemsAt stamp 16 s e []) bad) bad
+readLine s = cond (eqb (getD s 0 0) 112) (onNumber (naturalBehindTab s 1 1 4294967295) (λ stamp e. itemsAt stamp 16 s e []) bad) bad
 
 -- ---- the reading as the code hands it over
 

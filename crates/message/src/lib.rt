@@ -17,10 +17,6 @@ pub use write::write_message;
 
 const LETTER: u8 = b'p';
 
-const TAB: u8 = b'\t';
-
-const NEWLINE: u8 = b'\n';
-
 // How many versions a batch has: a count past the limit counts as the limit.
 pub fn size(batch: Batch) -> usize
     ensures { λ r. ⌜ (r ≡ length (itemsOf batch)) × ((r ≤ batch .count) × (r ≤ 16)) ⌝ }

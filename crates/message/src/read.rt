@@ -1,20 +1,19 @@
 // Reading a message line: whole, or not of the form.
-ghost use Prim.Native.Nat.{_+_, _≤_, _<_};
+ghost use Prim.Native.Nat.{_<_};
 ghost use mathlib.Core.Path.{_≡_};
 ghost use mathlib.Core.List.{[]};
-ghost use lib.Dec.{eqb};
-ghost use lib.ListN.{getD, drop};
+ghost use lib.ListN.{drop};
 ghost use Rattle.lists.specs.Lists.{any};
 ghost use Rattle.message.specs.Line.{named, distinct, itemsOf, batchOf};
-ghost use Rattle.message.specs.Read.{behindTab, valueBehindTab, itemAt, endsAt, itemsAt, readLine, messageOf, noMessage, closedMessage, pushed};
+ghost use Rattle.message.specs.Read.{itemAt, endsAt, itemsAt, readLine, messageOf, noMessage, closedMessage, pushed};
 use crate::LETTER;
-use crate::NEWLINE;
-use crate::TAB;
 use crate::size;
+use decimal::NEWLINE;
 use decimal::Natural;
 use decimal::Signed;
-use decimal::natural_at;
-use decimal::signed_at;
+use decimal::byte_at;
+use decimal::natural_behind_tab;
+use decimal::signed_behind_tab;
 use units::Batch;
 use units::Item;
 use units::Ordinal;
@@ -42,10 +41,10 @@ enum Piece {
 pub fn read_message(line: &[u8]) -> Message
     ensures { λ r. ⌜ r ≡ messageOf (readLine (now (line .entry))) ⌝ }
 {
-    if !byte_is(line, 0, LETTER) {
+    if byte_at(line, 0) != LETTER {
         return no_message();
     }
-    let Natural::Number(stamp, e) = number_at(line, 1, 1, limits::LAST_STAMP as u64) else {
+    let Natural::Number(stamp, e) = natural_behind_tab(line, 1, 1, limits::LAST_STAMP as u64) else {
         return no_message();
     };
     items_from(line, Stamp(stamp as u32), e)
@@ -76,13 +75,13 @@ fn items_from(line: &[u8], stamp: Stamp, from: usize) -> Message
 fn item_at(line: &[u8], at: usize) -> Piece
     ensures { λ r. ⌜ r ≡ itemAt (now (line .entry)) at ⌝ }
 {
-    let Natural::Number(key, a) = number_at(line, at, 0, limits::LAST_KEY as u64) else {
+    let Natural::Number(key, a) = natural_behind_tab(line, at, 0, limits::LAST_KEY as u64) else {
         return Piece::Bad;
     };
-    let Natural::Number(ordinal, b) = number_at(line, a, 1, limits::LOG as u64) else {
+    let Natural::Number(ordinal, b) = natural_behind_tab(line, a, 1, limits::LOG as u64) else {
         return Piece::Bad;
     };
-    let Signed::Number(value, e) = value_at(line, b) else {
+    let Signed::Number(value, e) = signed_behind_tab(line, b) else {
         return Piece::Bad;
     };
     Piece::At(
@@ -95,40 +94,12 @@ fn item_at(line: &[u8], at: usize) -> Piece
     )
 }
 
-fn number_at(line: &[u8], at: usize, least: u64, most: u64) -> Natural
-    ensures { λ r. ⌜ r ≡ behindTab (now (line .entry)) at least most ⌝ }
-{
-    if byte_is(line, at, TAB) {
-        return natural_at(line, at + 1, least, most);
-    }
-    Natural::Bad
-}
-
-fn value_at(line: &[u8], at: usize) -> Signed
-    ensures { λ r. ⌜ r ≡ valueBehindTab (now (line .entry)) at ⌝ }
-{
-    if byte_is(line, at, TAB) {
-        return signed_at(line, at + 1);
-    }
-    Signed::Bad
-}
-
 // Whether the newline stands at a place, and nothing behind it.
 fn ends(line: &[u8], at: usize) -> bool
     ensures { λ r. ⌜ r ≡ endsAt (now (line .entry)) at ⌝ }
 {
-    if byte_is(line, at, NEWLINE) {
+    if byte_at(line, at) == NEWLINE {
         return at + 1 == line.len();
-    }
-    false
-}
-
-fn byte_is(line: &[u8], at: usize, b: u8) -> bool
-    requires { ⌜ 1 ≤ b ⌝ }
-    ensures { λ r. ⌜ r ≡ eqb (getD (now (line .entry)) at 0) b ⌝ }
-{
-    if at < line.len() {
-        return line[at] == b;
     }
     false
 }

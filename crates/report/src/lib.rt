@@ -7,6 +7,7 @@ ghost use Rattle.decimal.specs.Text.{decimal};
 ghost use Rattle.decimal.specs.Write.{put, Puts};
 ghost use Rattle.report.specs.Report.{verdictAt, verdictWord, judged, judgedList, headLine, verdictLine, verdictLines, totalLine, reportText, refusedText};
 ghost use Rattle.report.specs.Write.{writtenAs};
+use decimal::NEWLINE;
 use decimal::Put;
 use decimal::put_byte;
 use decimal::put_natural;
@@ -22,8 +23,6 @@ pub enum Written {
 }
 
 const SPACE: u8 = b' ';
-
-const NEWLINE: u8 = b'\n';
 
 // Room for any report: 17 bytes for its head, 14 for each of 512 verdicts, 50 for its totals.
 pub const LONGEST: usize = 7235;

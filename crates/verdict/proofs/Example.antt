@@ -5,10 +5,10 @@ use mathlib.Core.List.{List, [], _∷_}
 use lib.ListN.{length}
 use Rattle.lists.specs.Lists.{any, count}
 use Rattle.decimal.specs.Text.{isDigit}
-use Rattle.decimal.specs.Read.{more, digits, unsigned, negative, fieldAt, asNatural, naturalAt}
+use Rattle.decimal.specs.Read.{more, digits, unsigned, negative, fieldAt, asNatural, naturalAt, naturalBehindTab, onNumber}
 use Rattle.records.specs.declared.Verdict.the-variants.{Ok, FV}
 use Rattle.records.specs.Ledger.{rowOf, become, rowsUpTo, rowsBetween, resolved, chain, verdictOn, changed, noted, concluded, step}
-use Rattle.history.specs.Line.{numberAt, onNumber, ended, tuneAt, readAt, writeAt, behindName, lineAt}
+use Rattle.history.specs.Line.{ended, tuneAt, readAt, writeAt, behindName, lineAt}
 use Rattle.verdict.specs.Judge.{judged, refused, lines, reportOf}
 
 -- `s 1`, `s 2`, `w 1 5`, `c 1`, `r 2 5 1`, `c 2`: 9 is the tab, 10 the newline
@@ -22,5 +22,5 @@ pub examples :
     × (reportOf [] ≡ judged [] (record { started = 0; committed = 0; aborted = 0; «open» = 0 }))
     × (reportOf (115 ∷ 9 ∷ 50 ∷ 10 ∷ 99 ∷ 9 ∷ 50 ∷ []) ≡ refused 13 2)
     × (reportOf (115 ∷ 9 ∷ 50 ∷ 10 ∷ 99 ∷ 9 ∷ 49 ∷ 10 ∷ []) ≡ refused 15 2)
-unfolding reportOf lines lineAt behindName tuneAt readAt writeAt ended onNumber numberAt naturalAt asNatural fieldAt digits more unsigned negative isDigit any count rowOf become rowsUpTo rowsBetween resolved chain verdictOn changed noted concluded step
+unfolding reportOf lines lineAt behindName tuneAt readAt writeAt ended onNumber naturalBehindTab naturalAt asNatural fieldAt digits more unsigned negative isDigit any count rowOf become rowsUpTo rowsBetween resolved chain verdictOn changed noted concluded step
 examples = (refl, refl, refl, refl)

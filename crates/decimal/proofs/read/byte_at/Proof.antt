@@ -1,9 +1,9 @@
--- `decimal::read::minus_at` meets its contract: past the end stands 0, no minus.
+-- `decimal::read::byte_at` meets its contract: past the end stands 0.
 use Prim.Native.Nat.{ℕ}
 use lib.ListN.{List·getD-eq-default}
 use borrow.Author.Needs.{needs}
-use Rattle.decimal.proofs.read.minus_at.Statement.{statement}
-use Rattle.decimal.proofs.read.minus_at.Tie as tie
+use Rattle.decimal.proofs.read.byte_at.Statement.{statement}
+use Rattle.decimal.proofs.read.byte_at.Tie as tie
 
 shared-slice-read-result : tie.Need-shared-slice-read-result
 shared-slice-read-result c = search needs
@@ -14,5 +14,5 @@ returns c = search needs
 returns-2 : tie.Need-returns-2
 returns-2 c = rw (List·getD-eq-default {A = ℕ} _ 0 (c .if1 .left))
 
-pub minus-at-spec : {M : Type 1} → statement M
-minus-at-spec = tie.close (tie.spec shared-slice-read-result returns returns-2)
+pub byte-at-spec : {M : Type 1} → statement M
+byte-at-spec = tie.close (tie.spec shared-slice-read-result returns returns-2)
