@@ -1,5 +1,5 @@
 -- What is not of the form, at any place of any text, in every range; then document 01's edges, by computation.
-use Prim.Native.Nat.{ℕ, zero, suc, _+_, _-_, _^_, _≤_, _<_}
+use Prim.Native.Nat.{ℕ, suc, _+_, _-_, _^_, _≤_, _<_}
 use native.Mathlib.Nat.{not-le-of-lt}
 use native.Mathlib.Decide.{decLt}
 use native.Mathlib.Omega.{arith}
@@ -10,7 +10,7 @@ use lib.IntN.{ℤ, pos, negsuc}
 use lib.Signed.{mag}
 use lib.ListN.{length, getD, drop, replicate, List·getD-eq-default}
 use Rattle.decimal.specs.Text.{isDigit, spelt, decimal, plain}
-use Rattle.decimal.specs.Read.{more, digits, unsigned, negative, fieldAt, naturals, values, number, InRange, Stands}
+use Rattle.decimal.specs.Read.{more, digits, unsigned, negative, fieldAt, naturals, values, InRange, Stands}
 use Rattle.decimal.specs.declared.read.Range.{Range}
 use Rattle.decimal.specs.declared.read.Field.the-variants.{Plus, Minus, Bad}
 use Rattle.decimal.specs.declared.read.Natural.{Natural}

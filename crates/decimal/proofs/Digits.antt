@@ -12,6 +12,8 @@ use lib.Dec.{leb}
 use lib.IntN.{ℤ, pos, negsuc, natAbs}
 use lib.Signed.{mag, ltZ}
 use lib.ListN.{length, getD, drop, length-append, List·getD-append}
+use Rattle.lists.specs.Lists.{Every, none, also}
+use Rattle.lists.proofs.Every.{every-append, every-at}
 use Rattle.decimal.specs.Text.{isDigit, spelt, decimal, plain}
 
 -- ---- the digits of n: one of them below ten, else those of n / 10 and one more
@@ -110,17 +112,12 @@ pub digit-is : (d : ℕ) → d < 10 → isDigit (48 + d) ≡ true
 unfolding isDigit
 digit-is d h = rw (le-leb 48 (48 + d) (omega arith), le-leb (48 + d) 57 (omega arith))
 
-pub data Digits : List ℕ → Type 0 where
-  none : Digits []
-  also : {b : ℕ} {s : List ℕ} → isDigit b ≡ true → Digits s → Digits (b ∷ s)
-
-digits-append : {s t : List ℕ} → Digits s → Digits t → Digits (s ++ t)
-digits-append none q = q
-digits-append (also h p) q = also h (digits-append p q)
+abbrev pub Digits : List ℕ → Type 0
+Digits s = Every (λ (b : ℕ). isDigit b ≡ true) s
 
 pub decimal-digits : (n : ℕ) → Digits (decimal n)
 decimal-digits =
-    decimal-ind (λ n t. Digits t) (λ n h. also (digit-is n h) none) (λ m d h g p. digits-append p (also (digit-is d g) none))
+    decimal-ind (λ n t. Digits t) (λ n h. also (digit-is n h) none) (λ m d h g p. every-append p (also (digit-is d g) none))
 
 pub decimal-some : (n : ℕ) → 1 ≤ length (decimal n)
 decimal-some =
@@ -166,11 +163,6 @@ plain-32 (negsuc n) h = plain-length (negsuc n) 10 (omega arith) (omega arith)
 
 -- ---- the form of each byte
 
-pub digit-at : {t : List ℕ} → Digits t → (i : ℕ) → i < length t → isDigit (getD t i 0) ≡ true
-digit-at none i h = absurd (omega arith)
-digit-at (also d p) zero h = d
-digit-at (also d p) (suc i) h = digit-at p i (omega arith)
-
 -- a leading `0` is the whole text of 0
 pub decimal-zero : (n : ℕ) → getD (decimal n) 0 0 ≡ 48 → n ≡ 0
 decimal-zero zero e = refl
@@ -179,9 +171,9 @@ decimal-zero (suc n) e = absurd (omega (arith, decimal-first (suc n) (omega arit
 -- Each byte is a digit, but for a minus in front of a value below zero. So there is no plus.
 pub plain-byte : (z : ℤ) (i : ℕ) → i < length (plain z)
     → (isDigit (getD (plain z) i 0) ≡ true) ⊎ ((i ≡ 0) × ((getD (plain z) i 0 ≡ 45) × ltZ z (pos 0) ≡ true))
-plain-byte (pos n) i h = inl (digit-at (decimal-digits n) i h)
+plain-byte (pos n) i h = inl (every-at 0 (decimal-digits n) i h)
 plain-byte (negsuc n) zero h = inr (refl, (refl, refl))
-plain-byte (negsuc n) (suc i) h = inl (digit-at (decimal-digits (suc n)) i (omega arith))
+plain-byte (negsuc n) (suc i) h = inl (every-at 0 (decimal-digits (suc n)) i (omega arith))
 
 -- no digit behind the front is a leading zero: those of a value below zero begin above `0`
 pub plain-first : (z : ℤ) → (getD (plain z) 0 0 ≡ 48 → z ≡ pos 0) × (getD (plain z) 0 0 ≡ 45 → 48 < getD (plain z) 1 0)

@@ -12,13 +12,14 @@ use lib.Dec.{leb, eqb}
 use lib.IntN.{ℤ, pos, negsuc}
 use lib.ListN.{length, getD, drop, length-append, length-drop, List·getD-append}
 use lib.Seq.{drop-cons, drop-drop, drop-append-seam, getD-drop}
+use Rattle.lists.specs.Lists.{none, also}
 use Rattle.decimal.specs.Text.{isDigit, decimal, plain}
 use Rattle.decimal.specs.Read.{more, digits, unsigned, negative, fieldAt, number, InRange, Stands, Reads}
 use Rattle.decimal.specs.declared.read.Range.{Range}
 use Rattle.decimal.specs.declared.read.Field.{Field}
 use Rattle.decimal.specs.declared.read.Field.the-variants.{Plus, Minus, Bad}
 use Rattle.decimal.specs.declared.read.Natural.{Natural}
-use Rattle.decimal.proofs.Digits.{decimal-small, decimal-snoc, decimal-some, decimal-head, decimal-first, decimal-digits, worth, worth-le, worth-decimal, digit-above, digit-below, Digits, none, also}
+use Rattle.decimal.proofs.Digits.{decimal-small, decimal-snoc, decimal-some, decimal-head, decimal-first, decimal-digits, worth, worth-le, worth-decimal, digit-above, digit-below, Digits}
 use Rattle.decimal.proofs.Steps.{byte-within}
 
 -- no digit stands at the head
@@ -41,7 +42,7 @@ record More (most v e : ℕ) (s : List ℕ) (w f : ℕ) : Type 0 where
   small : w ≤ most
   stops : Stops rest
 
-absurd-number : {A : Type 0} {w f : ℕ} → Natural.Bad ≡ Natural.Number w f → A
+pub absurd-number : {A : Type 0} {w f : ℕ} → Natural.Bad ≡ Natural.Number w f → A
 absurd-number q = let z : _≡_ {A = ℕ} 0 1 = cc in absurd (omega arith)
 
 more-reads : (most v e : ℕ) (s : List ℕ) (w f : ℕ) → v ≤ most → more most v e s ≡ Natural.Number w f → More most v e s w f

@@ -10,7 +10,7 @@ use borrow.Author.Tests.{le-leb, lt-leb, eq-eqb, ne-eqb}
 use lib.Dec.{leb}
 use lib.ListN.{length, getD, drop, drop-of-length-le, List·getD-eq-default}
 use lib.Seq.{drop-cons}
-use Rattle.decimal.specs.Text.{isDigit, decimal}
+use Rattle.decimal.specs.Text.{isDigit}
 use Rattle.decimal.specs.Read.{more, digits, unsigned, negative, fieldAt}
 use Rattle.decimal.specs.declared.read.Range.{Range}
 use Rattle.decimal.specs.declared.read.Field.{Field}

@@ -1,5 +1,5 @@
 -- A number behind a tab is read exactly if its field stands there, in its range, with no digit behind it; for every range at once.
-use Prim.Native.Nat.{ℕ, suc, _+_, _≤_, _<_}
+use Prim.Native.Nat.{ℕ, suc, _+_, _≤_}
 use native.Mathlib.Numerals.{add-one}
 use native.Mathlib.Omega.{arith}
 use mathlib.Core.Path.{_≡_, refl, sym, ap, _∙_, subst}
@@ -17,7 +17,7 @@ use Rattle.decimal.specs.declared.read.Range.{Range}
 use Rattle.decimal.specs.declared.read.Natural.{Natural}
 use Rattle.decimal.specs.declared.read.Signed.{Signed}
 use Rattle.decimal.proofs.Steps.{byte-within}
-use Rattle.decimal.proofs.Reading.{Stops, after, head-of, reads-at}
+use Rattle.decimal.proofs.Reading.{Stops, absurd-number, after, head-of, reads-at}
 use Rattle.decimal.proofs.Values.{natural-exactly, signed-exactly}
 
 -- ---- texts that stand one behind the other
@@ -64,13 +64,10 @@ module _ (s : List ℕ) (at : ℕ) where
   unfolding naturalBehindTab
   natural-tabbed least most v e = (
     λ q.
-        let t : (getD s at 0 ≡ 9) × (naturalAt s (at + 1) least most ≡ Natural.Number v e) = tab-taken s at (naturalAt s (at + 1) least most) Natural.Bad (Natural.Number v e) none q in
+        let t : (getD s at 0 ≡ 9) × (naturalAt s (at + 1) least most ≡ Natural.Number v e) = tab-taken s at (naturalAt s (at + 1) least most) Natural.Bad (Natural.Number v e) absurd-number q in
         record { tab = t .0; reads = natural-exactly s (at + 1) least most v e .0 (t .1) },
     λ t. tab-there s at (naturalAt s (at + 1) least most) Natural.Bad (t .tab) ∙ natural-exactly s (at + 1) least most v e .1 (t .reads),
   )
-    where
-      none : Natural.Bad ≡ Natural.Number v e → ⊥
-      none q = let z : _≡_ {A = ℕ} 0 1 = cc in omega arith
 
   pub signed-tabbed : (z : ℤ) (e : ℕ) → (signedBehindTab s at ≡ Signed.Number z e) ↔ Tabbed values s at z e
   unfolding signedBehindTab

@@ -1,6 +1,5 @@
 -- Writing text: digits from the back, a text put whole or not at all, and what it leaves as it was.
 use Prim.Native.Nat.{ℕ, suc, _+_, _-_, _/_, _%_, _≤_, _<_}
-use native.Mathlib.Nat.{add-zero}
 use native.Mathlib.Numerals.{add-one}
 use native.Mathlib.Decide.{decLe}
 use native.Mathlib.Omega.{arith}
@@ -12,6 +11,7 @@ use borrow.Author.Tests.{le-leb, lt-leb, leb-true, leb-false, not-true, not-fals
 use lib.Dec.{leb}
 use lib.ListN.{length, getD, set, take, drop, length-append, length-drop}
 use lib.Seq.{sets, sets-eq, set-comm, paste, paste-suc, length-paste, take-length, take-at, drop-at, length-take-le, drop-drop, getD-take, getD-drop}
+use Rattle.lists.proofs.Sets.{sets-snoc}
 use Rattle.decimal.specs.Text.{decimal}
 use Rattle.decimal.specs.Read.{Stands}
 use Rattle.decimal.specs.Write.{put, wrote}
@@ -26,12 +26,6 @@ sets-set : (l : List ℕ) (at : ℕ) (t : List ℕ) (j d : ℕ) → at + length 
 sets-set l at [] j d h = refl
 sets-set l at (b ∷ t) j d h =
     ap (λ (m : List ℕ). sets m (suc at) t) (set-comm l j at d b (omega arith)) ∙ sets-set (set l at b) (suc at) t j d (omega arith)
-
-sets-snoc : (l : List ℕ) (at : ℕ) (t : List ℕ) (d : ℕ) → sets l at (t ++ (d ∷ [])) ≡ set (sets l at t) (at + length t) d
-sets-snoc l at [] d = ap (λ (k : ℕ). set l k d) (sym (add-zero at))
-sets-snoc l at (b ∷ t) d =
-    let e : suc at + length t ≡ at + suc (length t) = omega arith in
-    sets-snoc (set l at b) (suc at) t d ∙ ap (λ (k : ℕ). set (sets (set l at b) (suc at) t) k d) e
 
 pub length-step : (n : ℕ) → 10 ≤ n → length (decimal n) ≡ length (decimal (n / 10)) + 1
 length-step n h = ap length (decimal-step n h) ∙ length-append (decimal (n / 10)) ((48 + n % 10) ∷ [])
