@@ -2,11 +2,12 @@
 use Prim.Native.Nat.{ℕ, _+_, _≤_, _<_}
 use native.Mathlib.Nat.{add-zero, zero-add}
 use native.Mathlib.Omega.{arith}
-use mathlib.Core.Path.{_≡_, refl, sym, ap, _∙_}
-use mathlib.Core.List.{List, [], _∷_, _++_}
+use mathlib.Core.Path.{_≡_, refl, sym, ap, _∙_, subst}
+use mathlib.Core.List.{List, [], _∷_, _++_, append-assoc, append-nil}
 use borrow.Author.Tests.{le-leb, lt-leb}
 use lib.ListN.{length, take, drop, length-append}
 use lib.Seq.{take-append-seam, length-take-le}
+use Rattle.decimal.specs.Text.{joined}
 use Rattle.decimal.specs.Write.{put, wrote, handedOver, Puts}
 use Rattle.decimal.specs.declared.write.Put.{Put}
 use Rattle.decimal.specs.declared.write.Put.the-variants.{Next, Full}
@@ -44,7 +45,24 @@ puts-then {b = b} {t = t} {u = u} {at = at} {m = m} {r = r} p q =
       text = q .text ∙ ap (λ (l : List ℕ). put l m u) (p .text) ∙ ap (λ (k : ℕ). put (put b at t) k u) (p .place) ∙ put-put b at t u (omega arith);
     }
 
--- at the front, the text is what stands before its end
+-- ---- the texts of things
+
+joined-snoc : {A : Type 0} (f : A → List ℕ) (xs : List A) (x : A) → joined f (xs ++ (x ∷ [])) ≡ joined f xs ++ f x
+unfolding joined
+joined-snoc f [] x = append-nil (f x)
+joined-snoc f (y ∷ xs) x = ap (λ (l : List ℕ). f y ++ l) (joined-snoc f xs x) ∙ sym (append-assoc (f y) (joined f xs) (f x))
+
+pub joined-length : {A : Type 0} (f : A → List ℕ) (xs : List A) (x : A) → length (joined f (xs ++ (x ∷ []))) ≡ length (joined f xs) + length (f x)
+joined-length f xs x = ap length (joined-snoc f xs x) ∙ length-append (joined f xs) (f x)
+
+-- one more
+pub puts-more : {A : Type 0} (f : A → List ℕ) (xs : List A) (x : A) {ys : List A} {b c d : List ℕ} {at m r : ℕ} → ys ≡ xs ++ (x ∷ []) → Puts b c at (joined f xs) m → Puts c d m (f x) r → Puts b d at (joined f ys) r
+puts-more f xs x {b = b} {d = d} {at = at} {r = r} e p q =
+    subst (λ (l : List ℕ). Puts b d at l r) (sym (ap (joined f) e ∙ joined-snoc f xs x)) (puts-then p q)
+
+-- ---- the front of a buffer
+
+-- the text is what stands before its end
 pub puts-front : {b c t : List ℕ} {r : ℕ} → Puts b c 0 t r → take r c ≡ t
 puts-front {b = b} {t = t} {r = r} p =
     let e : r ≡ length t = p .place ∙ zero-add (length t) in

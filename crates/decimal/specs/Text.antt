@@ -29,3 +29,8 @@ plain (negsuc n) = 45 ∷ decimal (suc n)
 -- a field of a line: one tab (9), and a number in its plain form
 abbrev pub field : ℤ → List ℕ
 field z = 9 ∷ plain z
+
+-- the texts of things, one behind the other
+unfoldable pub joined : {A : Type 0} → (A → List ℕ) → List A → List ℕ
+joined f [] = []
+joined f (x ∷ xs) = f x ++ joined f xs

@@ -10,6 +10,7 @@ use borrow.Author.Tests.{le-leb, leb-true, leb-false}
 use lib.Dec.{leb}
 use lib.ListN.{length, drop, length-drop, drop-of-length-le}
 use Rattle.lists.specs.Lists.{Every, none, also}
+use Rattle.decimal.specs.Text.{joined}
 use Rattle.decimal.proofs.Reading.{after}
 use Rattle.records.specs.declared.Record.{Record}
 use Rattle.history.specs.declared.Line.{Line}
@@ -26,14 +27,14 @@ too-many : {A : Type 0} {line : ℕ} {rs : List Record} → oneTooMany line ≡ 
 too-many q = let z : _≡_ {A = ℕ} 0 1 = cc in absurd (omega arith)
 
 nothing-read : (left : ℕ) (s : List ℕ) (at : ℕ) (rs : List Record) → length s ≤ at → whole [] ≡ whole rs → ReadWhole left s at rs
-unfolding texts
+unfolding joined
 nothing-read left s at rs h q =
     let e : [] ≡ rs = cc in
     subst (ReadWhole left s at) e (record { text = drop-of-length-le s h; form = none; few = omega arith })
 
 one-read : (left : ℕ) (s : List ℕ) (at : ℕ) (r : Record) (e : ℕ) (h : History) (rs : List Record) → Written s at r e
     → ((qs : List Record) → h ≡ whole qs → ReadWhole left s e qs) → behind r h ≡ whole rs → ReadWhole (suc left) s at rs
-unfolding behind texts
+unfolding behind joined
 one-read left s at r e (oneTooMany line) rs w k q = too-many q
 one-read left s at r e (notOfForm line) rs w k q = not-whole q
 one-read left s at r e (whole qs) rs w k q =
@@ -58,7 +59,7 @@ records-read (suc left) s at line rs q = go (lineAt s at) refl (λ e. records-re
     go End h k q = nothing-read (suc left) s at rs (end-exactly s at .0 h) q
 
 pub records-back : (left : ℕ) (s : List ℕ) (at line : ℕ) (rs : List Record) → ReadWhole left s at rs → recordsFrom left s at line ≡ whole rs
-unfolding recordsFrom onLine behind texts
+unfolding recordsFrom onLine behind joined
 records-back left s at line rs h = go left at line rs (h .text) (h .form) (h .few)
   where
     spent : (at : ℕ) → drop at s ≡ [] → length s ≤ at
@@ -81,11 +82,11 @@ whole-text s rs q = records-read 4096 s 0 1 rs q .text
 -- ---- a line that stops the reading
 
 none-before : (s : List ℕ) (at line l : ℕ) → line ≡ l → Before s at line l at
-unfolding texts
+unfolding joined
 none-before s at line l h = record { rs = []; text = refl; form = none; count = omega arith }
 
 one-before : (s : List ℕ) (at line l e : ℕ) {r : Record} {d : ℕ} → Written s at r d → Before s d (line + 1) l e → Before s at line l e
-unfolding texts
+unfolding joined
 one-before s at line l e {r} w b =
     record {
       rs = r ∷ b .rs;
@@ -94,11 +95,12 @@ one-before s at line l e {r} w b =
       count = omega (arith, b .count);
     }
 
-behind-bad : (r : Record) (h : History) (l : ℕ) → behind r h ≡ notOfForm l → h ≡ notOfForm l
+-- a history that stops the reading is not changed by a record before it
+behind-stops : (r : Record) (h k : History) → ((rs : List Record) → k ≡ whole rs → ⊥) → behind r h ≡ k → h ≡ k
 unfolding behind
-behind-bad r (whole qs) l q = let z : _≡_ {A = ℕ} 0 1 = cc in absurd (omega arith)
-behind-bad r (oneTooMany k) l q = q
-behind-bad r (notOfForm k) l q = q
+behind-stops r (whole qs) k n q = absurd (n (r ∷ qs) (sym q))
+behind-stops r (oneTooMany l) k n q = q
+behind-stops r (notOfForm l) k n q = q
 
 pub records-bad : (left : ℕ) (s : List ℕ) (at line l : ℕ) → recordsFrom left s at line ≡ notOfForm l → NotOfForm s at line l
 unfolding recordsFrom onLine
@@ -112,18 +114,12 @@ records-bad (suc left) s at line l q = go (lineAt s at) refl (λ e. records-bad 
     go : (x : Line) → lineAt s at ≡ x → ((e : ℕ) → recordsFrom left s e (line + 1) ≡ notOfForm l → NotOfForm s e (line + 1) l)
         → onLine x (λ r e. behind r (recordsFrom left s e (line + 1))) line ≡ notOfForm l → NotOfForm s at line l
     go (Taken r d) h k q =
-        let n : NotOfForm s d (line + 1) l = k d (behind-bad r (recordsFrom left s d (line + 1)) l q) in
+        let n : NotOfForm s d (line + 1) l = k d (behind-stops r (recordsFrom left s d (line + 1)) (notOfForm l) (λ rs e. not-whole e) q) in
         record { e = n .e; before = one-before s at line l (n .e) (line-reads s at h) (n .before); bad = n .bad }
     go Bad h k q =
         let same : line ≡ l = cc in
         record { e = at; before = none-before s at line l same; bad = h }
     go End h k q = let z : _≡_ {A = ℕ} 0 1 = cc in absurd (omega arith)
-
-behind-many : (r : Record) (h : History) (l : ℕ) → behind r h ≡ oneTooMany l → h ≡ oneTooMany l
-unfolding behind
-behind-many r (whole qs) l q = let z : _≡_ {A = ℕ} 0 1 = cc in absurd (omega arith)
-behind-many r (oneTooMany k) l q = q
-behind-many r (notOfForm k) l q = q
 
 pub records-many : (left : ℕ) (s : List ℕ) (at line l : ℕ) → recordsFrom left s at line ≡ oneTooMany l → OneTooMany left s at line l
 unfolding recordsFrom onLine
@@ -139,7 +135,7 @@ records-many (suc left) s at line l q = go (lineAt s at) refl (λ e. records-man
     go : (x : Line) → lineAt s at ≡ x → ((e : ℕ) → recordsFrom left s e (line + 1) ≡ oneTooMany l → OneTooMany left s e (line + 1) l)
         → onLine x (λ r e. behind r (recordsFrom left s e (line + 1))) line ≡ oneTooMany l → OneTooMany (suc left) s at line l
     go (Taken r d) h k q =
-        let n : OneTooMany left s d (line + 1) l = k d (behind-many r (recordsFrom left s d (line + 1)) l q) in
+        let n : OneTooMany left s d (line + 1) l = k d (behind-stops r (recordsFrom left s d (line + 1)) (oneTooMany l) (λ rs e. too-many e) q) in
         record { e = n .e; before = one-before s at line l (n .e) (line-reads s at h) (n .before); many = omega (arith, n .many); more = n .more }
     go Bad h k q = let z : _≡_ {A = ℕ} 0 1 = cc in absurd (omega arith)
     go End h k q = let z : _≡_ {A = ℕ} 0 1 = cc in absurd (omega arith)

@@ -6,6 +6,7 @@ use mathlib.Core.List.{List, [], _∷_, _++_}
 use lib.Dec.{leb}
 use lib.ListN.{length, drop}
 use Rattle.lists.specs.Lists.{Every}
+use Rattle.decimal.specs.Text.{joined}
 use Rattle.records.specs.declared.Record.{Record}
 use Rattle.history.specs.declared.Line.{Line}
 use Rattle.history.specs.declared.Line.the-variants.{Taken, Bad, End}
@@ -38,9 +39,8 @@ abbrev pub recordsOf : List ℕ → History
 recordsOf s = recordsFrom 4096 s 0 1
 
 -- the texts of records, one behind the other
-unfoldable pub texts : List Record → List ℕ
-texts [] = []
-texts (r ∷ rs) = textOf r ++ texts rs
+abbrev pub texts : List Record → List ℕ
+texts rs = joined textOf rs
 
 -- ---- what the theorems say of a reading
 

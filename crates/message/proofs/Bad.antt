@@ -8,7 +8,7 @@ use lib.ListN.{length, getD, drop, length-append}
 use lib.Seq.{getD-append-seam}
 use Rattle.units.specs.declared.Item.{Item}
 use Rattle.lists.specs.Lists.{any}
-use Rattle.decimal.specs.Text.{isDigit, spelt, decimal, plain, field}
+use Rattle.decimal.specs.Text.{isDigit, spelt, decimal, plain, field, joined}
 use Rattle.decimal.specs.Read.{more, digits, unsigned, negative, fieldAt, asNatural, naturalAt, asSigned, signedAt, naturalBehindTab, signedBehindTab, onNumber}
 use Rattle.decimal.proofs.Reading.{Stops, after, reads-at, reads-one}
 use Rattle.decimal.proofs.Bad.{upTo, in-upTo}
@@ -48,7 +48,7 @@ item-inj i j t u e m n =
 
 -- versions up to a newline
 items-inj : (is js : List Item) (t u : List ℕ) → itemsText is ++ (10 ∷ t) ≡ itemsText js ++ (10 ∷ u) → (is ≡ js) × (t ≡ u)
-unfolding itemsText itemText
+unfolding joined itemText
 items-inj [] [] t u e = (refl, ap (drop 1) e)
 items-inj [] (j ∷ js) t u e = absurd (omega (arith, ap (λ (l : List ℕ). getD l 0 0) e))
 items-inj (i ∷ is) [] t u e = absurd (omega (arith, ap (λ (l : List ℕ). getD l 0 0) e))
@@ -132,5 +132,5 @@ pub edges :
     × (readLine (112 ∷ 9 ∷ 51 ∷ 9 ∷ 53 ∷ 9 ∷ 49 ∷ 9 ∷ 48 ∷ 32 ∷ 10 ∷ []) ≡ bad)
     × (readLine (113 ∷ 9 ∷ 51 ∷ 9 ∷ 53 ∷ 9 ∷ 49 ∷ 9 ∷ 48 ∷ 10 ∷ []) ≡ bad)
     × (readLine [] ≡ bad)
-unfolding first run readLine itemsAt itemAt naturalBehindTab signedBehindTab onNumber onValue onPiece endsAt closed distinct any lineOf itemsText itemText naturalAt signedAt asNatural asSigned fieldAt digits more unsigned negative decimal spelt isDigit
+unfolding first run readLine itemsAt itemAt naturalBehindTab signedBehindTab onNumber onValue onPiece endsAt closed distinct any lineOf joined itemText naturalAt signedAt asNatural asSigned fieldAt digits more unsigned negative decimal spelt isDigit
 edges = (refl, refl, refl, refl, refl, refl, refl, refl, refl, refl, refl, refl, refl, refl, refl, refl, refl, refl)

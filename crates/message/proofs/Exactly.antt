@@ -11,7 +11,7 @@ use lib.IntN.{pos}
 use lib.ListN.{length, getD, drop, take, length-drop, drop-of-length-le}
 use Rattle.units.specs.declared.Item.{Item}
 use Rattle.lists.specs.Lists.{Every, none, also}
-use Rattle.decimal.specs.Text.{field}
+use Rattle.decimal.specs.Text.{field, joined}
 use Rattle.decimal.specs.Read.{naturals, naturalBehindTab, onNumber, Tabbed}
 use Rattle.decimal.specs.Write.{Puts}
 use Rattle.decimal.specs.declared.read.Natural.{Natural}
@@ -79,7 +79,7 @@ module _ (stamp : ℕ) (s : List ℕ) (was : ℕ) (items : List Item) where
   -- one version, and the end
   read-last : (left at : ℕ) (seen : List Item) (i : Item) (e : ℕ) → ItemAt s at i e → endsAt s e ≡ true → closed stamp (seen ++ (i ∷ [])) ≡ whole was items
       → ReadOn stamp (suc left) s at seen was items
-  unfolding itemsText
+  unfolding joined
   read-last left at seen i e p h q =
       let c : (stamp ≡ was) × (items ≡ seen ++ (i ∷ [])) × (distinct (seen ++ (i ∷ [])) ≡ true) = closed-is stamp (seen ++ (i ∷ [])) was items q in
       record {
@@ -95,7 +95,7 @@ module _ (stamp : ℕ) (s : List ℕ) (was : ℕ) (items : List Item) where
 
   -- one version, and more
   read-more : (left at : ℕ) (seen : List Item) (i : Item) (e : ℕ) → ItemAt s at i e → ReadOn stamp left s e (seen ++ (i ∷ [])) was items → ReadOn stamp (suc left) s at seen was items
-  unfolding itemsText
+  unfolding joined
   read-more left at seen i e p r =
       record {
         rest = i ∷ r .rest;
@@ -125,14 +125,14 @@ module _ (stamp : ℕ) (s : List ℕ) where
   -- the first version of a text that is read on
   first-back : (at : ℕ) (i : Item) (rest : List Item) → drop at s ≡ itemsText (i ∷ rest) ++ (10 ∷ []) → InRanges i
       → (itemAt s at ≡ Piece.At i (at + length (itemText i))) × (drop (at + length (itemText i)) s ≡ itemsText rest ++ (10 ∷ []))
-  unfolding itemsText
+  unfolding joined
   first-back at i rest q p =
       let text : drop at s ≡ itemText i ++ (itemsText rest ++ (10 ∷ [])) = q ∙ append-assoc (itemText i) (itemsText rest) (10 ∷ []) in
       (item-back s at i (itemsText rest ++ (10 ∷ [])) text (stops-items rest []) p, after s (itemText i) (itemsText rest ++ (10 ∷ [])) at text)
 
   items-back : (left at : ℕ) (seen rest : List Item) → drop at s ≡ itemsText rest ++ (10 ∷ []) → Every InRanges rest → 1 ≤ length rest → length rest ≤ left → distinct (seen ++ rest) ≡ true
       → itemsAt stamp left s at seen ≡ whole stamp (seen ++ rest)
-  unfolding itemsAt onPiece closed itemsText itemText
+  unfolding itemsAt onPiece closed joined itemText
   items-back left at seen [] text none some few d = absurd (omega arith)
   items-back zero at seen (i ∷ rest) text (also p ps) some few d = absurd (omega arith)
   items-back (suc left) at seen (i ∷ []) text (also p none) some few d =
@@ -151,8 +151,8 @@ module _ (s : List ℕ) (stamp : ℕ) (items : List Item) where
   unfolding readLine lineOf
   line-reads q = go (eqb (getD s 0 0) 112) refl q
     where
-      joined : (was e : ℕ) → eqb (getD s 0 0) 112 ≡ true → Tabbed (naturals 1 4294967295) s 1 (pos was) e → ReadOn was 16 s e [] stamp items → (s ≡ lineOf stamp items) × InForm stamp items
-      joined was e h t r =
+      line-is : (was e : ℕ) → eqb (getD s 0 0) 112 ≡ true → Tabbed (naturals 1 4294967295) s 1 (pos was) e → ReadOn was 16 s e [] stamp items → (s ≡ lineOf stamp items) × InForm stamp items
+      line-is was e h t r =
           let first : s ≡ 112 ∷ drop 1 s = byte-stands s 0 112 (omega arith) (eqb-true (getD s 0 0) 112 h) .here in
           let text : drop 1 s ≡ field (pos was) ++ itemsText items ++ (10 ∷ []) =
           tabbed-stands s 1 t .here
@@ -173,7 +173,7 @@ module _ (s : List ℕ) (stamp : ℕ) (items : List Item) where
       go true h q =
           let t : Took Natural.Number (naturalBehindTab s 1 1 4294967295) (λ was e. itemsAt was 16 s e []) (whole stamp items) =
           number-took (naturalBehindTab s 1 1 4294967295) (λ was e. itemsAt was 16 s e []) bad (whole stamp items) (no-reading stamp items) q in
-          joined (t .v) (t .e) h (natural-tabbed s 1 1 4294967295 (t .v) (t .e) .0 (t .is)) (items-read (t .v) s stamp items 16 (t .e) [] (t .goes))
+          line-is (t .v) (t .e) h (natural-tabbed s 1 1 4294967295 (t .v) (t .e) .0 (t .is)) (items-read (t .v) s stamp items 16 (t .e) [] (t .goes))
       go false h q = no-reading stamp items q
 
 line-starts : (stamp : ℕ) (items : List Item) → eqb (getD (lineOf stamp items) 0 0) 112 ≡ true

@@ -6,7 +6,7 @@ use mathlib.Core.List.{List, [], _∷_, _++_, append-assoc}
 use lib.IntN.{ℤ, pos}
 use lib.ListN.{length, drop, length-append}
 use Rattle.units.specs.declared.Item.{Item}
-use Rattle.decimal.specs.Text.{field, isDigit}
+use Rattle.decimal.specs.Text.{field, isDigit, joined}
 use Rattle.decimal.specs.Read.{naturals, values, naturalBehindTab, signedBehindTab, onNumber, Tabbed}
 use Rattle.decimal.specs.declared.read.Natural.{Natural}
 use Rattle.decimal.specs.declared.read.Signed.{Signed}
@@ -31,10 +31,10 @@ value-took Signed.Bad f z r no-bad q = absurd (no-bad q)
 
 module _ (s : List ℕ) (at : ℕ) where
   -- three fields, one behind the other
-  joined : (k o : ℕ) (v : ℤ) (a b e : ℕ) → Tabbed (naturals 0 63) s at (pos k) a → Tabbed (naturals 1 4096) s a (pos o) b → Tabbed values s b v e
+  fields-join : (k o : ℕ) (v : ℤ) (a b e : ℕ) → Tabbed (naturals 0 63) s at (pos k) a → Tabbed (naturals 1 4096) s a (pos o) b → Tabbed values s b v e
       → ItemAt s at (record { key = k; ordinal = record { 0 = o }; value = v }) e
   unfolding itemText
-  joined k o v a b e p q r =
+  fields-join k o v a b e p q r =
       record {
         text =
             tabbed-stands s at p .here
@@ -55,7 +55,7 @@ module _ (s : List ℕ) (at : ℕ) where
       let w : Took Signed.Number (signedBehindTab s (u .e)) (λ v e. Piece.At (record { key = t .v; ordinal = record { 0 = u .v }; value = v }) e) (Piece.At i e) =
       value-took (signedBehindTab s (u .e)) (λ v e. Piece.At (record { key = t .v; ordinal = record { 0 = u .v }; value = v }) e) Piece.Bad (Piece.At i e) (no-piece i e) (u .goes) in
       let d : ItemAt s at (record { key = t .v; ordinal = record { 0 = u .v }; value = w .v }) (w .e) =
-      joined (t .v) (u .v) (w .v) (t .e) (u .e) (w .e) (natural-tabbed s at 0 63 (t .v) (t .e) .0 (t .is)) (natural-tabbed s (t .e) 1 4096 (u .v) (u .e) .0 (u .is)) (signed-tabbed s (u .e) (w .v) (w .e) .0 (w .is)) in
+      fields-join (t .v) (u .v) (w .v) (t .e) (u .e) (w .e) (natural-tabbed s at 0 63 (t .v) (t .e) .0 (t .is)) (natural-tabbed s (t .e) 1 4096 (u .v) (u .e) .0 (u .is)) (signed-tabbed s (u .e) (w .v) (w .e) .0 (w .is)) in
       same (record { key = t .v; ordinal = record { 0 = u .v }; value = w .v }) (w .e) (w .goes) d
     where
       same : (j : Item) (f : ℕ) → Piece.At j f ≡ Piece.At i e → ItemAt s at j f → ItemAt s at i e
@@ -89,6 +89,6 @@ piece-took Piece.Bad f z r no-bad q = absurd (no-bad q)
 
 -- versions and a newline begin with no digit
 pub stops-items : (items : List Item) (rest : List ℕ) → Stops (itemsText items ++ (10 ∷ rest))
-unfolding itemsText itemText isDigit
+unfolding joined itemText isDigit
 stops-items [] rest = refl
 stops-items (i ∷ is) rest = refl

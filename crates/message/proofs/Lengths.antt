@@ -8,7 +8,7 @@ use lib.Signed.{mag}
 use lib.ListN.{length, length-append}
 use Rattle.units.specs.declared.Item.{Item}
 use Rattle.lists.specs.Lists.{Every, none, also}
-use Rattle.decimal.specs.Text.{field}
+use Rattle.decimal.specs.Text.{field, joined}
 use Rattle.decimal.proofs.Digits.{decimal-length, decimal-32, plain-32}
 use Rattle.decimal.proofs.Values.{value-small}
 use Rattle.message.specs.Line.{itemText, itemsText, lineOf, InRanges, InForm}
@@ -30,7 +30,7 @@ item-of-form i r =
     omega (arith, item-length i, decimal-length (i .key) 2 (omega arith) (omega (arith, r .key)), decimal-length (i .ordinal .0) 4 (omega arith) (omega (arith, r .last)), plain-32 (i .value) (value-small (i .value) (r .value)))
 
 pub items-of-form : {items : List Item} → Every InRanges items → length (itemsText items) ≤ 20 * length items
-unfolding itemsText
+unfolding joined
 items-of-form none = omega arith
 items-of-form (also {x = i} {xs = is} p ps) = omega (arith, length-append (itemText i) (itemsText is), item-of-form i p, items-of-form ps)
 

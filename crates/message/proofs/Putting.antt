@@ -2,10 +2,10 @@
 use Prim.Native.Nat.{ℕ, _+_, _*_, _≤_, _<_}
 use native.Mathlib.Numerals.{add-one}
 use native.Mathlib.Omega.{arith}
-use mathlib.Core.Path.{_≡_, refl, sym, ap, _∙_, subst}
-use mathlib.Core.List.{List, [], _∷_, _++_, append-assoc, append-nil}
+use mathlib.Core.Path.{_≡_, ap, _∙_, subst}
+use mathlib.Core.List.{List, [], _∷_, _++_}
 use lib.IntN.{pos}
-use lib.ListN.{length, getD, take, length-append}
+use lib.ListN.{length, getD, take}
 use lib.Seq.{take-suc, take-all}
 use mir.Syntax.{w32}
 use mir.Val.{SFits}
@@ -15,7 +15,7 @@ use Rattle.decimal.specs.Write.{put, wrote, Puts}
 use Rattle.decimal.specs.declared.write.Put.{Put}
 use Rattle.decimal.specs.declared.write.Put.the-variants.{Next, Full}
 use Rattle.decimal.proofs.Writing.{put-length}
-use Rattle.decimal.proofs.Putting.{puts-one, puts-next, puts-full, puts-length, puts-then}
+use Rattle.decimal.proofs.Putting.{puts-one, puts-next, puts-full, puts-length, puts-then, puts-more}
 use Rattle.decimal.proofs.Digits.{decimal-32}
 use Rattle.message.specs.Line.{itemText, itemsText, lineOf, noItem}
 use Rattle.message.proofs.Lengths.{item-length, item-longest}
@@ -57,26 +57,13 @@ module _ (b : List ℕ) (at : ℕ) (i : Item) (room : at + 27 ≤ length b) (k :
 
 -- ---- runs of versions
 
-items-append : (xs ys : List Item) → itemsText (xs ++ ys) ≡ itemsText xs ++ itemsText ys
-unfolding itemsText
-items-append [] ys = refl
-items-append (x ∷ xs) ys = ap (λ (l : List ℕ). itemText x ++ l) (items-append xs ys) ∙ sym (append-assoc (itemText x) (itemsText xs) (itemsText ys))
-
-items-snoc : (l : List Item) (i : ℕ) → i < length l → itemsText (take (i + 1) l) ≡ itemsText (take i l) ++ itemText (getD l i noItem)
-unfolding itemsText
-items-snoc l i h =
-    ap (λ (k : ℕ). itemsText (take k l)) (add-one i)
-    ∙ ap itemsText (take-suc l i noItem h)
-    ∙ items-append (take i l) (getD l i noItem ∷ [])
-    ∙ ap (λ (t : List ℕ). itemsText (take i l) ++ t) (append-nil (itemText (getD l i noItem)))
-
 module _ (b : List ℕ) (at : ℕ) (l : List Item) {c : List ℕ} {to i : ℕ} (p : Puts b c at (itemsText (take i l)) to) where
   -- one more; 27 bytes are the most that each takes
   pub items-more : {d : List ℕ} {r : ℕ} (x : Item) → i < length l → to ≤ at + 27 * i → getD l i noItem ≡ x → (Puts c d to (itemText x) r) × (r ≤ to + 27)
       → (r ≤ at + 27 * (i + 1)) × Puts b d at (itemsText (take (i + 1) l)) r
   items-more x h small e q =
-      let text : itemsText (take (i + 1) l) ≡ itemsText (take i l) ++ itemText x = items-snoc l i h ∙ ap (λ (y : Item). itemsText (take i l) ++ itemText y) e in
-      (omega (arith, q .1), rw text (puts-then p (q .0)))
+      let next : take (i + 1) l ≡ take i l ++ (x ∷ []) = ap (λ (k : ℕ). take k l) (add-one i) ∙ take-suc l i noItem h ∙ ap (λ (y : Item). take i l ++ (y ∷ [])) e in
+      (omega (arith, q .1), puts-more itemText (take i l) x next p (q .0))
 
   pub items-all : length l ≤ i → Puts b c at (itemsText l) to
   items-all h = subst (λ (k : List Item). Puts b c at (itemsText k) to) (take-all i l h) p

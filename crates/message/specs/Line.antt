@@ -11,15 +11,14 @@ use lib.Seq.{sets}
 use Rattle.units.specs.declared.Item.{Item}
 use Rattle.units.specs.declared.Batch.{Batch}
 use Rattle.lists.specs.Lists.{any, Every}
-use Rattle.decimal.specs.Text.{field}
+use Rattle.decimal.specs.Text.{field, joined}
 use Rattle.decimal.specs.Read.{InRange, values}
 
 unfoldable pub itemText : Item → List ℕ
 itemText i = field (pos (i .key)) ++ field (pos (i .ordinal .0)) ++ field (i .value)
 
-unfoldable pub itemsText : List Item → List ℕ
-itemsText [] = []
-itemsText (i ∷ is) = itemText i ++ itemsText is
+abbrev pub itemsText : List Item → List ℕ
+itemsText items = joined itemText items
 
 -- 112 is `p`, 10 the newline
 unfoldable pub lineOf : ℕ → List Item → List ℕ

@@ -4,14 +4,15 @@ use native.Mathlib.Omega.{arith}
 use mathlib.Core.Path.{_≡_, refl, ap, _∙_}
 use mathlib.Core.List.{List, [], _∷_, _++_}
 use lib.ListN.{length, getD, length-append}
-use Rattle.decimal.specs.Text.{decimal}
+use Rattle.decimal.specs.Text.{decimal, joined}
 use Rattle.decimal.proofs.Digits.{decimal-32}
+use Rattle.decimal.proofs.Putting.{joined-length}
 use Rattle.records.specs.declared.Judged.{Judged}
 use Rattle.records.specs.declared.Totals.{Totals}
 use Rattle.records.specs.declared.Verdict.{Verdict}
 use Rattle.records.specs.declared.Verdict.the-variants.{Ok, RC, BV, FV, SV, WC}
 use Rattle.report.specs.Report.{lineOf, judge, total, refused, verdictWord, judged, judgedList, headLine, verdictLine, verdictLines, totalLine, reportText, refusedText}
-use Rattle.report.proofs.Lines.{judged-length, verdicts-snoc}
+use Rattle.report.proofs.Lines.{judged-length}
 
 last-length : (f : List ℕ) → length (lineOf f []) ≡ length f + 1
 unfolding lineOf
@@ -56,11 +57,11 @@ total-longest t s =
 
 module _ (names codes : List ℕ) (small : (i : ℕ) → getD names i 0 < 4294967296) where
   verdicts-longest : (n : ℕ) → length (verdictLines (judgedList names codes n)) ≤ 14 * n
-  unfolding judgedList verdictLines
+  unfolding judgedList joined
   verdicts-longest zero = omega arith
   verdicts-longest (suc n) =
       let j : Judged = judged (getD names n 0) (getD codes n 0) in
-      omega (arith, ap length (verdicts-snoc (judgedList names codes n) j), length-append (verdictLines (judgedList names codes n)) (verdictLine j), verdict-longest j (small n), verdicts-longest n)
+      omega (arith, joined-length verdictLine (judgedList names codes n) j, verdict-longest j (small n), verdicts-longest n)
 
   -- a room of 7,235 bytes is enough
   pub report-longest : (n : ℕ) (t : Totals) → n ≤ 512 → Small t → length (reportText (judgedList names codes n) t) ≤ 7235

@@ -3,11 +3,11 @@ use Prim.Native.Nat.{ℕ, zero, suc, _+_, _≤_}
 use native.Mathlib.Numerals.{add-one}
 use native.Mathlib.Omega.{arith}
 use mathlib.Core.Path.{_≡_, refl, sym, ap, _∙_, subst}
-use mathlib.Core.List.{List, [], _∷_, _++_, append-assoc, append-nil, reverse, reverse-cons}
+use mathlib.Core.List.{List, [], _∷_, _++_, reverse, reverse-cons}
 use lib.ListN.{length, getD, length-append}
-use Rattle.decimal.specs.Text.{decimal}
+use Rattle.decimal.specs.Text.{decimal, joined}
 use Rattle.decimal.specs.Write.{Puts}
-use Rattle.decimal.proofs.Putting.{puts-then, puts-none}
+use Rattle.decimal.proofs.Putting.{puts-then, puts-none, puts-more}
 use Rattle.records.specs.declared.Judged.{Judged}
 use Rattle.records.specs.declared.Totals.{Totals}
 use Rattle.records.specs.declared.Verdict.the-variants.{WC}
@@ -58,11 +58,6 @@ word-last (suc (suc (suc zero))) h = absurd (omega arith)
 word-last (suc (suc (suc (suc zero)))) h = absurd (omega arith)
 word-last (suc (suc (suc (suc (suc n))))) h = refl
 
-pub verdicts-snoc : (js : List Judged) (j : Judged) → verdictLines (js ++ (j ∷ [])) ≡ verdictLines js ++ verdictLine j
-unfolding verdictLines
-verdicts-snoc [] j = append-nil (verdictLine j)
-verdicts-snoc (i ∷ js) j = ap (λ (l : List ℕ). verdictLine i ++ l) (verdicts-snoc js j) ∙ sym (append-assoc (verdictLine i) (verdictLines js) (verdictLine j))
-
 module _ (names codes : List ℕ) where
   pub judged-length : (n : ℕ) → length (judgedList names codes n) ≡ n
   unfolding judgedList
@@ -74,16 +69,13 @@ module _ (names codes : List ℕ) where
   judged-more n = ap (judgedList names codes) (add-one n)
 
   pub verdicts-none : (b : List ℕ) (at : ℕ) → at ≤ length b → Puts b b at (verdictLines (judgedList names codes 0)) at
-  unfolding judgedList verdictLines
+  unfolding judgedList joined
   verdicts-none b at h = puts-none b at h
 
   -- one more
   pub verdicts-more : {b c d : List ℕ} {at to r : ℕ} (i : ℕ) → Puts b c at (verdictLines (judgedList names codes i)) to → Puts c d to (verdictLine (judged (getD names i 0) (getD codes i 0))) r
       → Puts b d at (verdictLines (judgedList names codes (i + 1))) r
-  verdicts-more {b = b} {d = d} {at = at} {r = r} i p q =
-      let j : Judged = judged (getD names i 0) (getD codes i 0) in
-      let e : verdictLines (judgedList names codes i) ++ verdictLine j ≡ verdictLines (judgedList names codes (i + 1)) = sym (ap verdictLines (judged-more i) ∙ verdicts-snoc (judgedList names codes i) j) in
-      subst (λ (l : List ℕ). Puts b d at l r) e (puts-then p q)
+  verdicts-more i p q = puts-more verdictLine (judgedList names codes i) (judged (getD names i 0) (getD codes i 0)) (judged-more i) p q
 
   pub verdicts-all : {b c : List ℕ} {at to : ℕ} (i n : ℕ) → i ≤ n → n ≤ i → Puts b c at (verdictLines (judgedList names codes i)) to → Puts b c at (verdictLines (judgedList names codes n)) to
   verdicts-all {b = b} {c = c} {at = at} {to = to} i n h g p =

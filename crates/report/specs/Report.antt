@@ -4,7 +4,7 @@
 use Prim.Native.Nat.{ℕ, zero, suc}
 use mathlib.Core.List.{List, [], _∷_, _++_}
 use lib.ListN.{length, getD}
-use Rattle.decimal.specs.Text.{decimal}
+use Rattle.decimal.specs.Text.{decimal, joined}
 use Rattle.records.specs.declared.Judged.{Judged}
 use Rattle.records.specs.declared.Totals.{Totals}
 use Rattle.records.specs.declared.Verdict.{Verdict}
@@ -40,9 +40,8 @@ headLine n = lineOf judge (decimal n ∷ [])
 unfoldable pub verdictLine : Judged → List ℕ
 verdictLine j = lineOf (decimal (j .name)) (verdictWord (j .verdict) ∷ [])
 
-unfoldable pub verdictLines : List Judged → List ℕ
-verdictLines [] = []
-verdictLines (j ∷ js) = verdictLine j ++ verdictLines js
+abbrev pub verdictLines : List Judged → List ℕ
+verdictLines js = joined verdictLine js
 
 unfoldable pub totalLine : Totals → List ℕ
 totalLine t = lineOf total (decimal (t .started) ∷ decimal (t .committed) ∷ decimal (t .aborted) ∷ decimal (t .«open») ∷ [])

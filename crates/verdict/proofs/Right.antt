@@ -19,6 +19,7 @@ use Rattle.records.specs.Tally.{totalsOf, Counts}
 use Rattle.records.specs.Judge.{Taken, nothing, line}
 use Rattle.records.proofs.Verdicts.{judge-right}
 use Rattle.records.proofs.Tallies.{totals-right}
+use Rattle.decimal.specs.Text.{joined}
 use Rattle.history.specs.declared.Line.{Line}
 use Rattle.history.specs.declared.Line as read
 use Rattle.history.specs.Line.{lineAt}
@@ -43,7 +44,7 @@ record Rest (left : ℕ) (s : List ℕ) (at : ℕ) (h : History) (js : List Judg
 
 module _ (left : ℕ) (s : List ℕ) (at : ℕ) {h : History} {l : Ledger} (k : Taken h l) (js : List Judged) (t : Totals) where
   rest-none : length s ≤ at → concluded l (totalsOf h) ≡ judged js t → Rest left s at h js t
-  unfolding texts
+  unfolding joined
   rest-none e q =
       let a : js ≡ reverse (l .judged) = cc in
       let b : t ≡ totalsOf h = cc in
@@ -58,7 +59,7 @@ module _ (left : ℕ) (s : List ℕ) (at : ℕ) {h : History} {l : Ledger} (k : 
 
 module _ (left : ℕ) (s : List ℕ) (at next : ℕ) {h : History} (e : Record) (js : List Judged) (t : Totals) where
   rest-more : Written s at e next → Rest left s next (e ∷ h) js t → Rest (suc left) s at h js t
-  unfolding texts
+  unfolding joined
   rest-more w r =
       let front : reverse (r .records) ++ (e ∷ h) ≡ reverse (e ∷ r .records) ++ h =
       sym (ap (λ (x : List Record). x ++ h) (reverse-cons e (r .records)) ∙ append-assoc (reverse (r .records)) (e ∷ []) h) in

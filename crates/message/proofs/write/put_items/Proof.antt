@@ -4,6 +4,7 @@ use native.Mathlib.Omega.{arith}
 use mathlib.Core.Path.{_≡_}
 use borrow.Author.Needs.{needs}
 use lib.ListN.{length, take}
+use Rattle.decimal.specs.Text.{joined}
 use Rattle.decimal.specs.Write.{Puts}
 use Rattle.decimal.proofs.Putting.{puts-length, puts-none}
 use Rattle.message.specs.Line.{itemsOf, itemsText}
@@ -23,7 +24,7 @@ size-requires : tie.Need-size-requires Inv-loop μ-loop
 size-requires c κs = search needs
 
 loop-holds : tie.Need-loop-holds Inv-loop μ-loop
-unfolding itemsText
+unfolding joined
 loop-holds c = (omega arith, (c .size .ensures, (omega arith, puts-none _ _ (omega arith))))
 
 mul-put-item : tie.Need-mul-put-item Inv-loop μ-loop
