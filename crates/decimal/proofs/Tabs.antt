@@ -12,7 +12,7 @@ use lib.IntN.{ℤ, pos}
 use lib.ListN.{length, getD, drop, length-append}
 use lib.Seq.{drop-cons}
 use Rattle.decimal.specs.Text.{plain, field}
-use Rattle.decimal.specs.Read.{naturals, values, naturalAt, signedAt, behindTab, naturalBehindTab, signedBehindTab, onNumber, InRange, Stands, Reads, Tabbed}
+use Rattle.decimal.specs.Read.{naturals, values, behindTab, naturalBehindTab, signedBehindTab, onNumber, InRange, Stands, Reads, Tabbed}
 use Rattle.decimal.specs.declared.read.Range.{Range}
 use Rattle.decimal.specs.declared.read.Natural.{Natural}
 use Rattle.decimal.specs.declared.read.Signed.{Signed}
@@ -44,42 +44,29 @@ module _ (s : List ℕ) where
         here = drop-cons s a 0 (byte-within s a (omega arith)) ∙ ap (λ (x : ℕ). x ∷ drop (suc a) s) e ∙ ap (λ (k : ℕ). b ∷ drop k s) (sym (add-one a));
       }
 
--- ---- the tab
+-- ---- the number behind a tab
 
-module _ {A : Type 0} (s : List ℕ) (at : ℕ) (there no-tab : A) where
-  tab-there : getD s at 0 ≡ 9 → behindTab s at there no-tab ≡ there
-  tab-there h = rw (eq-eqb (getD s at 0) 9 h)
-
-  tab-taken : (r : A) → (no-tab ≡ r → ⊥) → behindTab s at there no-tab ≡ r → (getD s at 0 ≡ 9) × (there ≡ r)
-  tab-taken r n q = go (eqb (getD s at 0) 9) refl q
-    where
-      go : (t : Bool) → eqb (getD s at 0) 9 ≡ t → cond t there no-tab ≡ r → (getD s at 0 ≡ 9) × (there ≡ r)
-      go true h q = (eqb-true (getD s at 0) 9 h, q)
-      go false h q = absurd (n q)
-
--- ---- the number behind it
+absurd-signed : {A : Type 0} {z : ℤ} {e : ℕ} → Signed.Bad ≡ Signed.Number z e → A
+absurd-signed q = let z : _≡_ {A = ℕ} 0 1 = cc in absurd (omega arith)
 
 module _ (s : List ℕ) (at : ℕ) where
+  -- a reading that answers r exactly if z stands at its place answers it behind a tab exactly if z stands behind that tab
+  tabbed-exactly : {A : Type 0} {there no-tab r : A} {range : Range} {z : ℤ} {e : ℕ} → (no-tab ≡ r → ⊥) → ((there ≡ r) ↔ Reads range s (at + 1) z e)
+      → (behindTab s at there no-tab ≡ r) ↔ Tabbed range s at z e
+  tabbed-exactly {A} {there} {no-tab} {r} {range} {z} {e} n x =
+      (λ q. go (eqb (getD s at 0) 9) refl q, λ t. rw (eq-eqb (getD s at 0) 9 (t .tab)) (x .1 (t .reads)))
+    where
+      go : (t : Bool) → eqb (getD s at 0) 9 ≡ t → cond t there no-tab ≡ r → Tabbed range s at z e
+      go true h q = record { tab = eqb-true (getD s at 0) 9 h; reads = x .0 q }
+      go false h q = absurd (n q)
+
   pub natural-tabbed : (least most v e : ℕ) → (naturalBehindTab s at least most ≡ Natural.Number v e) ↔ Tabbed (naturals least most) s at (pos v) e
   unfolding naturalBehindTab
-  natural-tabbed least most v e = (
-    λ q.
-        let t : (getD s at 0 ≡ 9) × (naturalAt s (at + 1) least most ≡ Natural.Number v e) = tab-taken s at (naturalAt s (at + 1) least most) Natural.Bad (Natural.Number v e) absurd-number q in
-        record { tab = t .0; reads = natural-exactly s (at + 1) least most v e .0 (t .1) },
-    λ t. tab-there s at (naturalAt s (at + 1) least most) Natural.Bad (t .tab) ∙ natural-exactly s (at + 1) least most v e .1 (t .reads),
-  )
+  natural-tabbed least most v e = tabbed-exactly absurd-number (natural-exactly s (at + 1) least most v e)
 
   pub signed-tabbed : (z : ℤ) (e : ℕ) → (signedBehindTab s at ≡ Signed.Number z e) ↔ Tabbed values s at z e
   unfolding signedBehindTab
-  signed-tabbed z e = (
-    λ q.
-        let t : (getD s at 0 ≡ 9) × (signedAt s (at + 1) ≡ Signed.Number z e) = tab-taken s at (signedAt s (at + 1)) Signed.Bad (Signed.Number z e) none q in
-        record { tab = t .0; reads = signed-exactly s (at + 1) z e .0 (t .1) },
-    λ t. tab-there s at (signedAt s (at + 1)) Signed.Bad (t .tab) ∙ signed-exactly s (at + 1) z e .1 (t .reads),
-  )
-    where
-      none : Signed.Bad ≡ Signed.Number z e → ⊥
-      none q = let z : _≡_ {A = ℕ} 0 1 = cc in omega arith
+  signed-tabbed z e = tabbed-exactly absurd-signed (signed-exactly s (at + 1) z e)
 
   -- a number that was read is at most the most
   pub natural-small : (least most : ℕ) {n : Natural} {v e : ℕ} → n ≡ naturalBehindTab s at least most → n ≡ Natural.Number v e → v ≤ most
