@@ -26,17 +26,10 @@ use Rattle.decimal.proofs.Reading.{field-reads, field-read}
 -- ---- naturals
 
 module _ (s : List ℕ) (at least most : ℕ) where
-  pub natural-plus : {f : Field} {v e : ℕ} → f ≡ fieldAt s at (naturals least most) → f ≡ Plus v e → Natural.Number v e ≡ naturalAt s at least most
-  unfolding naturalAt asNatural
-  natural-plus p q = rw (← p, q)
-
-  pub natural-minus : {f : Field} {v e : ℕ} → f ≡ fieldAt s at (naturals least most) → f ≡ Minus v e → Natural.Bad ≡ naturalAt s at least most
-  unfolding naturalAt asNatural
-  natural-minus p q = rw (← p, q)
-
-  pub natural-bad : {f : Field} → f ≡ fieldAt s at (naturals least most) → f ≡ Bad → Natural.Bad ≡ naturalAt s at least most
-  unfolding naturalAt asNatural
-  natural-bad p q = rw (← p, q)
+  -- the field that was read, as a natural
+  pub natural-is : {f g : Field} → f ≡ fieldAt s at (naturals least most) → f ≡ g → asNatural g ≡ naturalAt s at least most
+  unfolding naturalAt
+  natural-is p q = ap asNatural (sym q ∙ p)
 
   as-natural : (f : Field) (v e : ℕ) → asNatural f ≡ Natural.Number v e → f ≡ number (pos v) e
   unfolding asNatural

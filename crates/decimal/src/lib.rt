@@ -1,4 +1,4 @@
-// Numbers as decimal text: one reader and one writer for every field, over any range.
+// Numbers as decimal text: one reader and one writer for every field, over any range; and the texts that stand around them.
 mod read;
 mod write;
 

@@ -1,5 +1,6 @@
 -- `decimal::read::natural_at` meets its contract.
-use Rattle.decimal.proofs.Values.{natural-plus, natural-minus, natural-bad}
+use Rattle.decimal.specs.Read.{asNatural}
+use Rattle.decimal.proofs.Values.{natural-is}
 use borrow.Author.Needs.{needs}
 use Rattle.decimal.proofs.read.natural_at.Statement.{statement}
 use Rattle.decimal.proofs.read.natural_at.Tie as tie
@@ -17,13 +18,16 @@ enum-told-2 : tie.Need-enum-told-2
 enum-told-2 c = search needs
 
 returns : tie.Need-returns
-returns c = natural-plus _ _ _ _ (c .before .before .before .field-at .ensures) (c .before .v .given .1)
+unfolding asNatural
+returns c = natural-is _ _ _ _ (c .before .before .before .field-at .ensures) (c .before .v .given .1)
 
 returns-2 : tie.Need-returns-2
-returns-2 c = natural-minus _ _ _ _ (c .before .before .field-at .ensures) (c .enum-told .given .1)
+unfolding asNatural
+returns-2 c = natural-is _ _ _ _ (c .before .before .field-at .ensures) (c .enum-told .given .1)
 
 returns-3 : tie.Need-returns-3
-returns-3 c = natural-bad _ _ _ _ (c .before .before .field-at .ensures) (c .enum-told2 .given .1)
+unfolding asNatural
+returns-3 c = natural-is _ _ _ _ (c .before .before .field-at .ensures) (c .enum-told2 .given .1)
 
 pub natural-at-spec : {M : Type 1} → statement M
 natural-at-spec =
