@@ -2,5 +2,6 @@
 pub mod Limits
 pub mod Pass
 pub mod Answers
+pub mod Shown
 pub mod Right
 pub mod Example

@@ -3,3 +3,4 @@
 pub mod Judge
 pub mod Reply
 pub mod Whole
+pub mod Show
