@@ -4,3 +4,4 @@ pub mod Judge
 pub mod Reply
 pub mod Whole
 pub mod Show
+pub mod Refused
