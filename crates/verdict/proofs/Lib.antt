@@ -6,3 +6,4 @@ pub mod Shown
 pub mod Right
 pub mod Example
 pub mod Ends
+pub mod Refused
