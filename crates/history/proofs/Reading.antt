@@ -36,14 +36,14 @@ no-end q = let z : _≡_ {A = ℕ} 0 1 = cc in absurd (omega arith)
 -- ---- texts that stand one behind the other
 
 module _ (s : List ℕ) where
-  join : {t u : List ℕ} {a b c : ℕ} → Stands t s a b → Stands u s b c → Stands (t ++ u) s a c
+  pub join : {t u : List ℕ} {a b c : ℕ} → Stands t s a b → Stands u s b c → Stands (t ++ u) s a c
   join {t} {u} {a} {b} {c} p q =
       record {
         ends = omega (arith, p .ends, q .ends, length-append t u);
         here = p .here ∙ ap (λ (l : List ℕ). t ++ l) (q .here) ∙ sym (append-assoc t u (drop c s));
       }
 
-  behind : (t u : List ℕ) {a c : ℕ} → Stands (t ++ u) s a c → Stands u s (a + length t) c
+  pub behind : (t u : List ℕ) {a c : ℕ} → Stands (t ++ u) s a c → Stands u s (a + length t) c
   behind t u {a} {c} p =
       record {
         ends = omega (arith, p .ends, length-append t u);

@@ -5,3 +5,5 @@ pub mod Answers
 pub mod Shown
 pub mod Right
 pub mod Example
+pub mod Ends
+pub mod Refused
