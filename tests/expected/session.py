@@ -263,24 +263,42 @@ def steps():
     # a start at the last clock but one gets the last stamp, the next gets 5; so does a commit, and its transaction stays open
     out.extend(["open 4294967294", "start", "start", "write 4294967295 5 1", "commit 4294967295", "read 4294967295 5", "abort 4294967295", "commit 4294967295"])
     out.extend(["open 4294967295", "start", "open 4294967293", "start", "write 4294967294 5 1", "commit 4294967294", "newest 5"])
+    # 3 before 5: 32 open, and the last stamp taken
+    out.append("open 4294967263")
+    out.extend(["start"] * 33)
+    out.extend(["abort 4294967264", "start"])
+    # an abort before 5: the clock stands at the last stamp
+    out.extend(["open 4294967292", "start", "start", "write 4294967293 5 1", "commit 4294967293", "read 4294967294 5", "commit 4294967294"])
+    # the aborts in their order, each at its lowest place: 5 has read key 5 two versions behind, and keys 6, 7 and 8 of later commits, and
+    # writes keys that later commits wrote; each tuning lets one rule more hold
+    for tune, overwrites in (("1 0 0", 1), ("2 0 0", 1), ("3 0 0", 1), ("3 1 1", 1), ("3 1 2", 1), ("3 1 2", 0)):
+        out.extend(["open 0", "start", "write 1 5 1", "commit 1", "start", "write 3 5 2", "commit 3", "start", "start"])
+        out.extend(["write 6 6 3", "write 6 7 4", "commit 6", "start", "write 8 5 5", "write 8 8 6", "commit 8", "tune 5 " + tune])
+        out.extend(["read 5 6", "note 5 5 0", "note 5 5 1", "read 5 7", "read 5 8", "note 5 5 2"] + ["distance 5 %d" % i for i in range(6)])
+        out.extend((["write 5 20 1", "write 5 8 1", "write 5 6 1"] if overwrites else ["write 5 20 1"]) + ["commit 5"])
     # 1, 2, 9: in the order of checks
     out.extend(["open 0", "read 1 64", "note 1 64 9", "write 1 64 1", "tune 1 0 0 0", "distance 1 0", "abort 1", "commit 1", "start", "read 1 64", "note 1 64 9", "write 1 64 1", "tune 1 0 0 0", "distance 1 0", "newest 64", "look 64"])
-    # 8 before 7 before 4; the own pending value is no record
+    # 2 before 8, 8 before 7 and 4, 7 before 4; the own pending value is no record
     out.extend(["write 1 5 3", "note 1 5 9", "read 1 5", "write 1 5 -4", "read 1 5"])
     out.extend(["read 1 %d" % k for k in range(6, 22)])
-    out.extend(["note 1 30 9", "note 1 30 0", "read 1 30", "read 1 5", "read 1 64"])
+    out.extend(["note 1 64 9", "note 1 5 0", "note 1 30 9", "note 1 30 0", "read 1 30", "read 1 5", "read 1 64"])
     # the 17th key; a second write of a key takes no place
     out.extend(["write 1 %d 1" % k for k in range(40, 55)])
     out.extend(["write 1 60 1", "write 1 5 6", "write 1 64 1", "commit 1", "commit 1", "newest 5", "newest 54", "newest 63"])
-    # messages, 18 and 17, and one byte more of room
-    out.extend(["message 1 512", "message 2 10", "message 2 145", "message 2 146", "message 3 512"])
-    # a full log: 4,096 versions; the abort goes before 6, 6 before 5
-    say("open 0")
-    for i in range(256):
-        say("start")
-        for k in range(16):
-            say("write %d %d %d" % (2 * i + 1, k, i))
-        say("commit %d" % (2 * i + 1))
+    # messages, 18 and 17, and one byte more of room; 18 also where there is no room at all
+    out.extend(["message 1 512", "message 1 0", "message 2 10", "message 2 145", "message 2 146", "message 3 512"])
+    # a full log: 4,096 versions
+    def fill(clock):
+        say("open %d" % clock)
+        for i in range(256):
+            say("start")
+            commit(clock + 2 * i + 1, *[(k, i) for k in range(16)])
+
+    # 6 before 5: the log is full when the last stamp is taken; 5 where nothing is written
+    fill(LAST - 514)
+    out.extend(["start", "start", "write %d 20 1" % LAST, "commit %d" % LAST, "commit %d" % (LAST - 1), "abort %d" % LAST])
+    # the abort before 6
+    fill(0)
     out.extend(["start", "write 513 20 1", "read 513 3", "commit 513", "start", "note 514 3 0", "write 514 20 1", "commit 514", "start", "commit 515"])
     out.extend(["tune 513 1 0 65535", "commit 513", "abort 513", "message 512 333", "message 512 1"])
     # lost, repeated and reordered messages: the copy holds the newest taken, and ends equal

@@ -47,7 +47,7 @@ puts-then {b = b} {t = t} {u = u} {at = at} {m = m} {r = r} p q =
 
 -- ---- the texts of things
 
-joined-snoc : {A : Type 0} (f : A → List ℕ) (xs : List A) (x : A) → joined f (xs ++ (x ∷ [])) ≡ joined f xs ++ f x
+pub joined-snoc : {A : Type 0} (f : A → List ℕ) (xs : List A) (x : A) → joined f (xs ++ (x ∷ [])) ≡ joined f xs ++ f x
 unfolding joined
 joined-snoc f [] x = append-nil (f x)
 joined-snoc f (y ∷ xs) x = ap (λ (l : List ℕ). f y ++ l) (joined-snoc f xs x) ∙ sym (append-assoc (f y) (joined f xs) (f x))

@@ -2,5 +2,8 @@
 pub mod Limits
 pub mod Pass
 pub mod Answers
+pub mod Shown
 pub mod Right
 pub mod Example
+pub mod Ends
+pub mod Refused

@@ -19,6 +19,10 @@ use totals::raise;
 use units::Refusal;
 use units::limits;
 
+mod print;
+
+pub use print::show;
+
 // The length of the output, or a refusal and its line (0 for 12 and 17).
 pub enum Answer {
     Bytes(usize),

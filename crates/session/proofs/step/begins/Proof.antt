@@ -3,8 +3,8 @@ use Prim.Native.Nat.{_-_, _≤_}
 use native.Mathlib.Omega.{arith}
 use lib.ListN.{length}
 use borrow.Author.Needs.{needs}
-use Rattle.session.proofs.begins.Statement.{statement}
-use Rattle.session.proofs.begins.Tie as tie
+use Rattle.session.proofs.step.begins.Statement.{statement}
+use Rattle.session.proofs.step.begins.Tie as tie
 
 abbrev Inv-loop : tie.InvT-loop
 Inv-loop line word i₀ i = (i ≤ length word) × (length word ≤ length line)

@@ -4,8 +4,8 @@ use native.Mathlib.Omega.{arith}
 use lib.ListN.{length}
 use mathlib.Core.Path.{_≡_, refl}
 use borrow.Author.Needs.{needs}
-use Rattle.session.proofs.put_word.Statement.{statement}
-use Rattle.session.proofs.put_word.Tie as tie
+use Rattle.session.proofs.say.put_word.Statement.{statement}
+use Rattle.session.proofs.say.put_word.Tie as tie
 
 abbrev Inv-loop : tie.InvT-loop
 Inv-loop out₀ at word to₀ i₀ out to i = (i ≤ length word) × (length out ≡ length out₀)

@@ -1,4 +1,4 @@
--- `narrow` casts only what fits.
+-- `of_the_log` casts only what fits.
 use Prim.Native.Nat.{ℕ, _^_, _<_}
 use native.Mathlib.Omega.{arith}
 use mathlib.Core.Path.{_≡_}
@@ -9,8 +9,8 @@ use lib.Signed.{mag, ltZ}
 use mir.Syntax.{w64}
 use mir.Val.{toZ, ofZ}
 use borrow.Author.Needs.{needs}
-use Rattle.session.proofs.narrow.Statement.{statement}
-use Rattle.session.proofs.narrow.Tie as tie
+use Rattle.session.proofs.say.of_the_log.Statement.{statement}
+use Rattle.session.proofs.say.of_the_log.Tie as tie
 
 small : (d : ℤ) → ltZ d (negsuc 4095) ≡ false → ltZ (pos 4096) d ≡ false → mag d < 2 ^ 31
 small (pos n) h k = omega (arith, ltb-false 4096 n k)
@@ -28,5 +28,5 @@ cast-result c = record { sfits = small (toZ w64 (ofZ w64 (c .before .before .arg
 returns-3 : tie.Need-returns-3
 returns-3 c = search needs
 
-pub narrow-spec : {M : Type 1} → statement M
-narrow-spec = tie.close (tie.spec returns returns-2 cast-result returns-3)
+pub of-the-log-spec : {M : Type 1} → statement M
+of-the-log-spec = tie.close (tie.spec returns returns-2 cast-result returns-3)
