@@ -3,4 +3,5 @@ pub mod Limits
 pub mod Pass
 pub mod Answers
 pub mod Right
+pub mod Determined
 pub mod Example
