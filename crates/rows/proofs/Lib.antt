@@ -1,4 +1,3 @@
-pub mod Count
 pub mod Words
 pub mod Walk
 pub mod Lines

@@ -4,12 +4,11 @@ use native.Mathlib.Omega.{arith}
 use mathlib.Core.Path.{_≡_, sym, _∙_}
 use mathlib.Core.List.{List}
 use Rattle.units.specs.Refusal.{numberOf}
-use Rattle.units.specs.declared.refusal.Refusal.{Refusal}
 use Rattle.units.proofs.Numbers.{number-inj}
 use Rattle.verdict.specs.declared.Answer.{Answer}
 use Rattle.verdict.specs.declared.Answer.the-variants.{Bytes, Refused}
 use Rattle.verdict.specs.Judge.{reportOf}
-use Rattle.verdict.specs.Reply.{bytes, refusedAt, replyOf, replied, roomAfter}
+use Rattle.verdict.specs.Reply.{replyOf, replied, roomAfter}
 
 -- document 01's numbers name the answer
 pub reply-inj : (a b : Answer) → replyOf a ≡ replyOf b → a ≡ b
