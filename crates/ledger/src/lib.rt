@@ -14,7 +14,7 @@ ghost use Rattle.trial.specs.Reads.{reads, seensOf, noteAt};
 ghost use Rattle.trial.specs.Reads as reading;
 ghost use Rattle.ledger.specs.Books.{Sized, books, verdicts, ledgerOf};
 ghost use Rattle.ledger.specs.Take.{tidy, subject, asked, checked, place, rowsAfter, pushSeen, pushJudged, pushed, step, settled, takes, told};
-use records::NOWHERE;
+use records::ABORTED;
 use records::Record;
 use records::Row;
 use records::Seen;
@@ -270,7 +270,7 @@ fn change(line: u32, seens: usize, e: Record, row: Row) -> Row
         Record::Read(_, key, w) => read(row, key, w, seens),
         Record::Write(_, key) => written(row, key),
         Record::Commit(_) => ended(row, line),
-        Record::Abort(_) => ended(row, NOWHERE),
+        Record::Abort(_) => ended(row, ABORTED),
     }
 }
 
