@@ -1,58 +1,33 @@
--- How counts grow by an entry, and what the counts of document 01 are in terms of those that the code walks for.
+-- What the counts of document 01 are in terms of those that the code walks for.
 use Prim.Native.Nat.{ℕ, suc, _+_, _-_, _<_, _≤_}
 use native.Mathlib.Omega.{arith}
 use native.Mathlib.Numerals.{add-one}
 use mathlib.Core.Path.{_≡_, refl, sym, _∙_, ap, fun-ext}
-use mathlib.Core.Bool.{Bool, true, false, cond, _&&_, _||_}
+use mathlib.Core.Bool.{Bool, true, false, cond, _&&_, _||_, and-false}
 use mathlib.Core.List.{List, [], _∷_}
 use lib.Dec.{leb, ltb, leb·zero, leb·suc-suc}
-use borrow.Author.Tests.{ltb-true, ltb-false, leb-true, leb-false, lt-ltb, le-ltb, le-leb, lt-leb}
+use borrow.Author.Tests.{ltb-true, leb-true, leb-false, lt-ltb, le-ltb}
 use Rattle.lists.specs.Lists.{count, any}
+use Rattle.lists.proofs.Every.{every-each}
+use Rattle.lists.proofs.Count.{count-none}
+use Rattle.lists.proofs.Tests.{leb-before}
 use Rattle.model.specs.Log.{Entry, ofKey, upTo, between, changedAfter, versions}
-use Rattle.counts.specs.Within.{within, bit}
-
-pub bit-le : (b : Bool) (h : ℕ) → h ≡ bit b → h ≤ 1
-unfolding bit
-bit-le true h e = omega arith
-bit-le false h e = omega arith
-
-module _ {A : Type 0} (p : A → Bool) where
-  -- an element more: its test is added
-  pub count-more : (x : A) (xs : List A) (n h : ℕ) → n ≡ count p xs → h ≡ bit (p x) → n + h ≡ count p (x ∷ xs)
-  unfolding count bit
-  count-more x xs n h e f = go (p x) f
-    where
-      go : (b : Bool) → h ≡ bit b → n + h ≡ cond b (suc (count p xs)) (count p xs)
-      go true f = omega arith
-      go false f = omega arith
-
-  count-none : ((x : A) → p x ≡ false) → (l : List A) → count p l ≡ 0
-  unfolding count
-  count-none h [] = refl
-  count-none h (x ∷ xs) = rw (h x) (count-none h xs)
+use Rattle.counts.specs.Within.{within}
 
 -- "at or before t" has no lower end
 pub up-to : (log : List Entry) (x t : ℕ) → within log x 0 t ≡ upTo log x t
 unfolding within upTo
 up-to log x t = simp leb·zero
 
-and-false : (b : Bool) → (b && false) ≡ false
-and-false true = refl
-and-false false = refl
-
 -- "strictly after .. and strictly before", of two stamps in order
 pub strictly : (log : List Entry) (x after before : ℕ) → after < before → within log x (after + 1) (before - 1) ≡ between log x after before
 unfolding within between
-strictly log x after before h = ap (λ (p : Entry → Bool). count p log) (fun-ext (λ (e : Entry). rw (add-one after, below (e .stamp) (ltb (e .stamp) before) refl)))
-  where
-    below : (s : ℕ) (b : Bool) → ltb s before ≡ b → leb s (before - 1) ≡ ltb s before
-    below s true e = le-leb s (before - 1) (omega (arith, ltb-true s before e)) ∙ sym e
-    below s false e = lt-leb s (before - 1) (omega (arith, ltb-false s before e)) ∙ sym e
+strictly log x after before h = ap (λ (p : Entry → Bool). count p log) (fun-ext (λ (e : Entry). rw (add-one after, leb-before (e .stamp) before (omega arith))))
 
 -- and of two that are not: nothing lies between
 pub nothing-between : (log : List Entry) (x after before : ℕ) → before ≤ after → 0 ≡ between log x after before
 unfolding between
-nothing-between log x after before h = sym (count-none _ (λ e. go (ofKey x e) (e .stamp) (ltb after (e .stamp)) refl) log)
+nothing-between log x after before h = sym (count-none _ (every-each (λ e. go (ofKey x e) (e .stamp) (ltb after (e .stamp)) refl) log))
   where
     go : (k : Bool) (s : ℕ) (b : Bool) → ltb after s ≡ b → (k && (ltb after s && ltb s before)) ≡ false
     go k s true e = rw (e, le-ltb s before (omega (arith, ltb-true after s e))) (and-false k)

@@ -9,6 +9,8 @@ use lib.ListN.{set}
 use lib.Pow.{pow-lt}
 use Rattle.units.specs.declared.refusal.Refusal.{Refusal}
 use Rattle.records.specs.Ledger.{nameOf, freshRow, rowOf, chain, isRecorded, resolved, changed, noted, concluded, verdictOn}
+use Rattle.records.specs.Order.{codeOf}
+use Rattle.records.specs.Tally.{starts, commits}
 use Rattle.records.specs.declared.Record.{Record}
 use Rattle.records.specs.declared.Record.the-variants.{Start, Tune, Read, Write, Commit, Abort}
 use Rattle.records.specs.declared.Row.{Row}
@@ -24,8 +26,8 @@ use Rattle.ledger.specs.declared.Check.{Check}
 use Rattle.ledger.specs.declared.Check.the-variants.{Passes, Fails}
 use Rattle.ledger.specs.declared.Request.{Request}
 use Rattle.ledger.specs.declared.Request.the-variants.{Recorded, Nothing}
-use Rattle.ledger.specs.Books.{Books, Verdicts, books, verdicts, codeOf, ledgerOf}
-use Rattle.ledger.specs.Take.{tidy, starts, commits, asked, subject, checked, place, rowsAfter, pushSeen, pushJudged, pushed, Step, step, settled, answered, takes}
+use Rattle.ledger.specs.Books.{Books, Verdicts, books, verdicts, ledgerOf}
+use Rattle.ledger.specs.Take.{tidy, asked, subject, checked, place, rowsAfter, pushSeen, pushJudged, pushed, Step, step, settled, answered, takes}
 
 never : {A : Type 0} (x w : ℕ) → Nothing ≡ Recorded x w → A
 never x w h = let z : _≡_ {A = ℕ} 0 1 = cc in absurd (omega arith)

@@ -1,3 +1,4 @@
 pub mod Cases
 pub mod Push
 pub mod Meant
+pub mod Determined

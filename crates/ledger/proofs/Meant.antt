@@ -10,6 +10,7 @@ use borrow.Author.Tests.{leb-false}
 use Rattle.lists.specs.Lists.{any}
 use Rattle.records.specs.Ledger.{refused, went, nameOf, rowOf, become, isOpen, freshRow, isRecorded, changed, noted, concluded, begun, moved}
 use Rattle.records.specs.Ledger as meaning
+use Rattle.records.specs.Tally.{starts}
 use Rattle.records.specs.declared.Record.{Record}
 use Rattle.records.specs.declared.Record.the-variants.{Start, Tune, Read, Write, Commit, Abort}
 use Rattle.records.specs.declared.Row.{Row}
@@ -26,7 +27,7 @@ use Rattle.ledger.specs.declared.Counts.{Counts}
 use Rattle.ledger.specs.declared.Taken.{Taken}
 use Rattle.ledger.specs.declared.Check.the-variants.{Passes, Fails}
 use Rattle.ledger.specs.Books.{Books, Sized, judgedOf, ledgerOf}
-use Rattle.ledger.specs.Take.{tidy, starts, checked, pushJudged, pushed, place, rowsAfter, settled, answered, step, takes, told, outcome}
+use Rattle.ledger.specs.Take.{tidy, checked, pushJudged, pushed, place, rowsAfter, settled, answered, step, takes, told, outcome}
 use Rattle.ledger.proofs.Push.{onto, seens-pushed, judged-pushed}
 
 -- a record's parts do not depend on how it is tidied, and stand before what was there

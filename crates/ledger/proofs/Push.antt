@@ -7,36 +7,17 @@ use lib.ListN.{set}
 use lib.Seq.{set-out, getD-set-same, getD-set-other}
 use Rattle.records.specs.declared.Seen.{Seen}
 use Rattle.records.specs.declared.Judged.{Judged}
-use Rattle.records.specs.declared.Verdict.{Verdict}
-use Rattle.records.specs.declared.Verdict.the-variants.{Ok, RC, BV, FV, SV, WC}
+use Rattle.records.specs.Order.{codeOf}
+use Rattle.records.proofs.Order.{verdict-back}
 use Rattle.trial.specs.Reads.{Reads, seensOf, noteAt}
 use Rattle.trial.specs.Reads as reading
-use Rattle.ledger.specs.Books.{Verdicts, Sized, verdicts, codeOf, verdictFrom, judgedOf, judgeAt}
+use Rattle.ledger.specs.Books.{Verdicts, Sized, verdicts, judgedOf, judgeAt}
 use Rattle.ledger.specs.Take.{pushSeen, pushJudged, pushed}
 
 -- the one that is new, if any, before the others
 unfoldable pub onto : {A : Type 0} → List A → List A → List A
 onto [] l = l
 onto (x ∷ xs) l = x ∷ l
-
--- a verdict's number is its own
-pub verdict-back : (v : Verdict) → verdictFrom (codeOf v) ≡ v
-unfolding verdictFrom
-verdict-back Ok = refl
-verdict-back RC = refl
-verdict-back BV = refl
-verdict-back FV = refl
-verdict-back SV = refl
-verdict-back WC = refl
-
-pub verdict-past : (n : ℕ) → (n ≡ 0 → ⊥) → (n ≡ 1 → ⊥) → (n ≡ 2 → ⊥) → (n ≡ 3 → ⊥) → (n ≡ 4 → ⊥) → WC ≡ verdictFrom n
-unfolding verdictFrom
-verdict-past zero a b c d e = absurd (a refl)
-verdict-past (suc zero) a b c d e = absurd (b refl)
-verdict-past (suc (suc zero)) a b c d e = absurd (c refl)
-verdict-past (suc (suc (suc zero))) a b c d e = absurd (d refl)
-verdict-past (suc (suc (suc (suc zero)))) a b c d e = absurd (e refl)
-verdict-past (suc (suc (suc (suc (suc n))))) a b c d e = refl
 
 module _ (s : Reads) (z : reading.Sized s) where
   pub note-out : (i : ℕ) (x : Seen) → 4096 ≤ i → noteAt s i x ≡ s

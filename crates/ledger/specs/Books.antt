@@ -4,9 +4,8 @@ use mathlib.Core.List.{List, [], _∷_}
 use mathlib.Core.Path.{_≡_}
 use lib.ListN.{length, getD, set}
 use Rattle.records.specs.Ledger.{Ledger}
+use Rattle.records.specs.Order.{codeOf, verdictFrom}
 use Rattle.records.specs.declared.Judged.{Judged}
-use Rattle.records.specs.declared.Verdict.{Verdict}
-use Rattle.records.specs.declared.Verdict.the-variants.{Ok, RC, BV, FV, SV, WC}
 use Rattle.rows.specs.Table.{Table, table, rowsOf}
 use Rattle.trial.specs.Reads.{Reads, reads, seensOf}
 use Rattle.ledger.specs.declared.Counts.{Counts}
@@ -26,23 +25,6 @@ verdicts names codes = record { names = names; codes = codes }
 
 abbrev pub books : Table → Reads → Verdicts → Books
 books t s v = record { table = t; reads = s; verdicts = v }
-
-abbrev pub codeOf : Verdict → ℕ
-codeOf Ok = 0
-codeOf RC = 1
-codeOf BV = 2
-codeOf FV = 3
-codeOf SV = 4
-codeOf WC = 5
-
--- a number past them is the last
-unfoldable pub verdictFrom : ℕ → Verdict
-verdictFrom zero = Ok
-verdictFrom (suc zero) = RC
-verdictFrom (suc (suc zero)) = BV
-verdictFrom (suc (suc (suc zero))) = FV
-verdictFrom (suc (suc (suc (suc zero)))) = SV
-verdictFrom (suc (suc (suc (suc (suc n))))) = WC
 
 abbrev pub judgedAt : Verdicts → ℕ → Judged
 judgedAt v i = record { name = getD (v .names) i 0; verdict = verdictFrom (getD (v .codes) i 0) }

@@ -1,11 +1,12 @@
 -- What a record at a line does to the columns, exactly: the reply, and every place of every column.
 use Prim.Native.Nat.{ℕ, suc, _-_, _%_, min}
-use mathlib.Core.Bool.{Bool, true, false, cond}
+use mathlib.Core.Bool.{cond}
 use mathlib.Core.List.{List, [], _∷_}
 use lib.Dec.{leb, ltb}
 use Rattle.units.specs.Refusal.{numberOf}
 use Rattle.units.specs.declared.refusal.Refusal.the-variants.{WrongTransaction, TooManyTransactions}
 use Rattle.records.specs.Ledger.{Outcome, refused, went, nameOf, rowOf, isOpen, freshRow, isRecorded, changed, noted, concluded}
+use Rattle.records.specs.Tally.{starts}
 use Rattle.records.specs.declared.Record.{Record}
 use Rattle.records.specs.declared.Record.the-variants.{Start, Tune, Read, Write, Commit, Abort}
 use Rattle.records.specs.declared.Row.{Row}
@@ -30,22 +31,6 @@ tidy (Read t x w) = Read t x w
 tidy (Write t x) = Write t (x % 64)
 tidy (Commit t) = Commit t
 tidy (Abort t) = Abort t
-
-abbrev pub starts : Record → Bool
-starts (Start t) = true
-starts (Tune t b) = false
-starts (Read t x w) = false
-starts (Write t x) = false
-starts (Commit t) = false
-starts (Abort t) = false
-
-abbrev pub commits : Record → Bool
-commits (Start t) = false
-commits (Tune t b) = false
-commits (Read t x w) = false
-commits (Write t x) = false
-commits (Commit t) = true
-commits (Abort t) = false
 
 -- the read that a record asks to be recorded
 abbrev pub asked : Record → Row → Request

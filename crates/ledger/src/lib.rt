@@ -7,12 +7,14 @@ ghost use lib.ListN.{set};
 ghost use mathlib.Core.Bool.{true};
 ghost use Rattle.records.specs.Ledger.{nameOf, rowOf, isOpen, freshRow, isRecorded, withEnd, changed, noted, concluded};
 ghost use Rattle.records.specs.Ledger as meaning;
+ghost use Rattle.records.specs.Order.{codeOf, verdictFrom};
+ghost use Rattle.records.specs.Tally.{starts, commits};
 ghost use Rattle.rows.specs.Table.{Table, table, withNames, withVersions, rowsOf};
 ghost use Rattle.trial.specs.Reads.{reads, seensOf, noteAt};
 ghost use Rattle.trial.specs.Reads as reading;
-ghost use Rattle.ledger.specs.Books.{Sized, books, verdicts, codeOf, verdictFrom, ledgerOf};
-ghost use Rattle.ledger.specs.Take.{tidy, starts, commits, subject, asked, checked, place, rowsAfter, pushSeen, pushJudged, pushed, step, settled, takes, told};
-use records::NOWHERE;
+ghost use Rattle.ledger.specs.Books.{Sized, books, verdicts, ledgerOf};
+ghost use Rattle.ledger.specs.Take.{tidy, subject, asked, checked, place, rowsAfter, pushSeen, pushJudged, pushed, step, settled, takes, told};
+use records::ABORTED;
 use records::Record;
 use records::Row;
 use records::Seen;
@@ -268,7 +270,7 @@ fn change(line: u32, seens: usize, e: Record, row: Row) -> Row
         Record::Read(_, key, w) => read(row, key, w, seens),
         Record::Write(_, key) => written(row, key),
         Record::Commit(_) => ended(row, line),
-        Record::Abort(_) => ended(row, NOWHERE),
+        Record::Abort(_) => ended(row, ABORTED),
     }
 }
 

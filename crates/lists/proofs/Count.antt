@@ -1,12 +1,19 @@
--- How many times a test holds: at most the length; two tests compared; one element more.
-use Prim.Native.Nat.{suc, _+_, _≤_, _<_}
+-- How many times a test holds: at most the length; tests compared; one element more; and whether it holds at all.
+use Prim.Native.Nat.{ℕ, suc, _+_, _≤_, _<_}
 use native.Mathlib.Omega.{arith}
 use mathlib.Core.Path.{_≡_, refl, sym, _∙_}
-use mathlib.Core.Bool.{Bool, true, false, cond, true≢false}
+use mathlib.Core.Bool.{Bool, true, false, cond, _||_, true≢false}
 use mathlib.Core.List.{List, [], _∷_}
+use lib.Dec.{ltb}
 use lib.ListN.{length}
-use Rattle.lists.specs.Lists.{count, Every, none, also}
+use borrow.Author.Tests.{lt-ltb}
+use Rattle.lists.specs.Lists.{count, bit, any, Every, none, also}
 use Rattle.lists.specs.Members.{In, here, below}
+
+pub bit-le : (b : Bool) (h : ℕ) → h ≡ bit b → h ≤ 1
+unfolding bit
+bit-le true h e = omega arith
+bit-le false h e = omega arith
 
 module _ {A : Type 0} where
   pub count-same : (p q : A → Bool) {l : List A} → Every (λ (x : A). p x ≡ q x) l → count p l ≡ count q l
@@ -67,10 +74,28 @@ module _ {A : Type 0} where
   count-empty p = refl
 
   -- over one more
-  pub count-step : (p : A → Bool) (x : A) (xs : List A) → count p (x ∷ xs) ≡ cond (p x) 1 0 + count p xs
-  unfolding count
+  pub count-step : (p : A → Bool) (x : A) (xs : List A) → count p (x ∷ xs) ≡ bit (p x) + count p xs
+  unfolding count bit
   count-step p x xs = go (p x)
     where
-      go : (b : Bool) → cond b (suc (count p xs)) (count p xs) ≡ cond b 1 0 + count p xs
+      go : (b : Bool) → cond b (suc (count p xs)) (count p xs) ≡ bit b + count p xs
       go true = omega arith
       go false = omega arith
+
+  pub count-more : (p : A → Bool) (x : A) (xs : List A) (n h : ℕ) → n ≡ count p xs → h ≡ bit (p x) → n + h ≡ count p (x ∷ xs)
+  count-more p x xs n h e f = omega (arith, count-step p x xs)
+
+  -- what p counts is what q and r count together
+  pub count-both : (p q r : A → Bool) {l : List A} → Every (λ (x : A). bit (p x) ≡ bit (q x) + bit (r x)) l → count p l ≡ count q l + count r l
+  count-both p q r none = omega (arith, count-empty p, count-empty q, count-empty r)
+  count-both p q r (also {x} {xs} e es) = omega (arith, count-step p x xs, count-step q x xs, count-step r x xs, count-both p q r es)
+
+  -- a test that holds at all counts something
+  pub any-count : (p : A → Bool) (l : List A) (n : ℕ) → n ≡ count p l → ltb 0 n ≡ any p l
+  unfolding count any
+  any-count p [] n e = rw e
+  any-count p (x ∷ xs) n e = rw e (go (p x) (any-count p xs (count p xs) refl))
+    where
+      go : (b : Bool) → ltb 0 (count p xs) ≡ any p xs → ltb 0 (cond b (suc (count p xs)) (count p xs)) ≡ (b || any p xs)
+      go true r = lt-ltb 0 (suc (count p xs)) (omega arith)
+      go false r = r

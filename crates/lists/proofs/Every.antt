@@ -8,6 +8,11 @@ use lib.ListN.{length, getD, set, take}
 use Rattle.lists.specs.Lists.{find, any, Every, none, also}
 
 module _ {A : Type 0} where
+  -- what holds of each thing
+  pub every-each : {P : A → Type 0} → ((x : A) → P x) → (l : List A) → Every P l
+  every-each f [] = none
+  every-each f (x ∷ xs) = also (f x) (every-each f xs)
+
   pub every-map : {P Q : A → Type 0} → ((x : A) → P x → Q x) → {l : List A} → Every P l → Every Q l
   every-map f none = none
   every-map f (also {x} h hs) = also (f x h) (every-map f hs)

@@ -8,3 +8,4 @@ pub mod Filter
 pub mod Along
 pub mod Any
 pub mod Images
+pub mod Tests

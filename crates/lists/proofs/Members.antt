@@ -7,6 +7,7 @@ use mathlib.Core.List.{List, [], _∷_, _++_, map}
 use lib.ListN.{length, getD}
 use Rattle.lists.specs.Lists.{Every, none, also}
 use Rattle.lists.specs.Members.{In, here, below, Distinct, empty, apart}
+use Rattle.lists.proofs.Every.{every-append}
 
 module _ {A : Type 0} where
   pub every-in : {P : A → Type 0} {l : List A} {x : A} → Every P l → In x l → P x
@@ -50,11 +51,7 @@ module _ {A : Type 0} where
   in-map f here = here
   in-map f (below i) = below (in-map f i)
 
-every-ne : {x : ℕ} {l r : List ℕ} → Every (λ (y : ℕ). y ≢ x) l → Every (λ (y : ℕ). y ≢ x) r → Every (λ (y : ℕ). y ≢ x) (l ++ r)
-every-ne none k = k
-every-ne (also h hs) k = also h (every-ne hs k)
-
 -- one more, which is none of them
 pub distinct-snoc : {l : List ℕ} (k : ℕ) → Distinct l → Every (λ (y : ℕ). y ≢ k) l → Distinct (l ++ (k ∷ []))
 distinct-snoc k empty none = apart none empty
-distinct-snoc k (apart a d) (also h hs) = apart (every-ne a (also (λ e. h (sym e)) none)) (distinct-snoc k d hs)
+distinct-snoc k (apart a d) (also h hs) = apart (every-append a (also (λ e. h (sym e)) none)) (distinct-snoc k d hs)

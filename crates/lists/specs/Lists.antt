@@ -1,4 +1,4 @@
--- The first place at which a test holds, how many times it holds, those at which it holds, and "for every".
+-- The first place at which a test holds, how many times it holds, those at which it holds, and "for every"; a test as a number.
 use Prim.Native.Nat.{ℕ, suc}
 use mathlib.Core.Bool.{Bool, true, false, cond, _||_, _&&_}
 use mathlib.Core.List.{List, [], _∷_}
@@ -12,6 +12,11 @@ find p (x ∷ xs) = cond (p x) 0 (suc (find p xs))
 unfoldable pub count : {A : Type 0} → (A → Bool) → List A → ℕ
 count p [] = 0
 count p (x ∷ xs) = cond (p x) (suc (count p xs)) (count p xs)
+
+-- what a test adds to a count
+unfoldable pub bit : Bool → ℕ
+bit true = 1
+bit false = 0
 
 -- whether p holds anywhere
 unfoldable pub any : {A : Type 0} → (A → Bool) → List A → Bool

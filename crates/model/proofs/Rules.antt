@@ -4,9 +4,9 @@ use Prim.Native.Nat.{ℕ, _≤_, _<_}
 use native.Mathlib.Omega.{arith}
 use mathlib.Core.Path.{_≡_, refl, sym, _∙_, ap}
 use mathlib.Core.Logic.{_↔_, _⊎_, inl, inr, ⊎-elim}
-use mathlib.Core.Bool.{Bool, true, false, cond, not, _&&_, true≢false}
+use mathlib.Core.Bool.{Bool, true, false, cond, _&&_, true≢false}
 use mathlib.Core.List.{List}
-use lib.Dec.{T, eqb, ltb}
+use lib.Dec.{eqb, ltb}
 use lib.IntN.{pos, negℤ}
 use lib.ListN.{length, getD}
 use lib.Signed.{ltZ, leZ}
@@ -14,6 +14,7 @@ use borrow.Author.Tests.{ltb-true, ltb-false, lt-ltb, le-ltb, eqb-true, eq-eqb}
 use Rattle.lists.specs.Lists.{find, any, Every}
 use Rattle.lists.proofs.Find.{find-holds, find-first}
 use Rattle.lists.proofs.Every.{every-map, find-none, none-found, find-is, any-none, none-any}
+use Rattle.lists.proofs.Tests.{not-tests}
 use Rattle.units.specs.declared.rule.Rule.{Rule}
 use Rattle.units.specs.declared.rule.Rule.the-variants.{BV, FV, SV, WC}
 use Rattle.units.specs.declared.rule.Certified.{Certified}
@@ -76,10 +77,6 @@ module _ {A : Type 0} (p : A → Bool) (P : A → Type 0) (tests : Tests p P) wh
     breaks-at : (d : A) (i : ℕ) → FirstBreak P d l i → brokenAt rule p l ≡ Broken (rule i)
     unfolding brokenAt
     breaks-at d i f = rw (break-first l d i f, lt-ltb i (length l) (f .there))
-
-not-tests : (b : Bool) → (not b ≡ false) ↔ T b
-not-tests true = (λ e. tt, λ h. refl)
-not-tests false = (λ e. true≢false e, λ h. absurd h)
 
 -- the tests of the search are those of the rules
 module _ (log : List Entry) (t : Transaction) where

@@ -7,7 +7,7 @@ use mathlib.Core.List.{List, [], _∷_}
 use lib.Dec.{leb, ltb}
 use lib.ListN.{length}
 use borrow.Author.Tests.{eqb-true, lt-ltb, le-ltb, lt-leb}
-use Rattle.lists.specs.Lists.{count, Every, none, also}
+use Rattle.lists.specs.Lists.{count, bit, Every, none, also}
 use Rattle.lists.proofs.Every.{every-map}
 use Rattle.lists.proofs.Count.{count-same}
 use Rattle.records.specs.declared.Record.{Record}
@@ -16,7 +16,7 @@ use Rattle.records.specs.declared.Row.{Row}
 use Rattle.records.specs.Written.{History, versionLines, wrote, makes, upTo, between}
 use Rattle.records.specs.Ledger.{Ledger, rowOf, nameOf, nowhere, freshRow, changed, isRecorded, has, rowsUpTo, rowsBetween}
 use Rattle.records.specs.Tally.{starts}
-use Rattle.records.proofs.Rows.{open-there, become-count, one}
+use Rattle.records.proofs.Rows.{open-there, become-count}
 use Rattle.records.proofs.Runs.{Ran, bare, began, moved}
 use Rattle.records.proofs.Fields.{rowAfter, read-keeps, keys-tied}
 
@@ -28,14 +28,15 @@ module _ (x : ℕ) (f : ℕ → Bool) (not-open : f 0 ≡ false) (not-aborted : 
   open-none : (q : Row) → q .end ≡ 0 → made q ≡ false
   open-none q e = rw (e, not-open) (and-false (has (q .keys) x))
 
-  still : (m : ℕ) (q : Row) → made q ≡ false → m ≡ m + one (made q)
+  still : (m : ℕ) (q : Row) → made q ≡ false → m ≡ m + bit (made q)
+  unfolding bit
   still m q e = rw e (omega arith)
 
-  lands : (a b : Bool) (n : ℕ) (v : List ℕ) → a ≡ b → count f (cond b (n ∷ v) v) ≡ count f v + one (a && f n)
-  unfolding count
+  lands : (a b : Bool) (n : ℕ) (v : List ℕ) → a ≡ b → count f (cond b (n ∷ v) v) ≡ count f v + bit (a && f n)
+  unfolding count bit
   lands true true n v e = go (f n)
     where
-      go : (c : Bool) → cond c (suc (count f v)) (count f v) ≡ count f v + one c
+      go : (c : Bool) → cond c (suc (count f v)) (count f v) ≡ count f v + bit c
       go true = omega arith
       go false = omega arith
   lands true false n v e = absurd (true≢false e)
@@ -44,7 +45,7 @@ module _ (x : ℕ) (f : ℕ → Bool) (not-open : f 0 ≡ false) (not-aborted : 
 
   -- a line adds the version that its row has become
   adds : (h : History) (e : Record) (n : ℕ) (r : Row) → starts e ≡ false → r .end ≡ 0 → has (r .keys) x ≡ wrote h (nameOf e) x
-      → count f (versionLines (e ∷ h) x) ≡ count f (versionLines h x) + one (made (changed (suc (length h)) n e r))
+      → count f (versionLines (e ∷ h) x) ≡ count f (versionLines h x) + bit (made (changed (suc (length h)) n e r))
   unfolding versionLines changed
   adds h (Start t) n r s o k = absurd (true≢false s)
   adds h (Tune t b) n r s o k = still _ (changed (suc (length h)) n (Tune t b) r) (open-none (changed (suc (length h)) n (Tune t b) r) o)
@@ -56,13 +57,13 @@ module _ (x : ℕ) (f : ℕ → Bool) (not-open : f 0 ≡ false) (not-aborted : 
   adds h (Abort t) n r s o k = still _ (changed (suc (length h)) n (Abort t) r) (rw not-aborted (and-false (has (r .keys) x)))
 
   pub counted : {h : History} {l : Ledger} → Ran h l → length h ≤ nowhere → count made (l .rows) ≡ count f (versionLines h x)
-  unfolding versionLines count
+  unfolding versionLines count bit
   counted bare small = refl
   counted (began {h} {t = t} {l} r k) small = rw (open-none (freshRow (suc (length h)) t) refl) (counted r (omega arith))
   counted (moved {h} {e} {l} r s o) small =
       let z : rowOf (l .rows) (nameOf e) .end ≡ 0 = eqb-true (rowOf (l .rows) (nameOf e) .end) 0 o in
       let q = become-count made (l .rows) (nameOf e) (rowAfter (suc (length h)) e l o) (open-there (l .rows) (nameOf e) o) in
-      let p : one (made (rowOf (l .rows) (nameOf e))) ≡ 0 = ap one (open-none (rowOf (l .rows) (nameOf e)) z) in
+      let p : bit (made (rowOf (l .rows) (nameOf e))) ≡ 0 = ap bit (open-none (rowOf (l .rows) (nameOf e)) z) in
       let a = adds h e (length (l .seens)) (rowOf (l .rows) (nameOf e)) s z (keys-tied r (omega arith) (nameOf e) x) in
       omega (arith, q, p, a, counted r (omega arith))
 

@@ -1,5 +1,6 @@
 pub mod Word
 pub mod Rows
+pub mod Order
 pub mod Runs
 pub mod Lines
 pub mod Fields

@@ -4,34 +4,35 @@ use native.Mathlib.Omega.{arith}
 use mathlib.Core.Path.{_≡_, refl, sym, _∙_, ap}
 use mathlib.Core.Bool.{Bool, true, false, cond, not, _&&_, _||_, true≢false, false≢true}
 use lib.Dec.{eqb, leb}
-use lib.ListN.{length, length-map}
+use lib.ListN.{length}
 use borrow.Author.Tests.{ne-eqb}
-use Rattle.lists.specs.Lists.{any, count}
+use Rattle.lists.specs.Lists.{any, count, bit}
 use Rattle.lists.proofs.Count.{count-empty, count-step}
 use Rattle.records.specs.declared.Record.{Record}
 use Rattle.records.specs.declared.Record.the-variants.{Start, Tune, Read, Write, Commit, Abort}
-use Rattle.records.specs.declared.Row.{Row}
 use Rattle.records.specs.Written.{History, isStart, isCommit, commitLine}
-use Rattle.records.specs.Ledger.{Ledger, refused, went, rowOf, nameOf, isOpen, nowhere, step}
+use Rattle.records.specs.Ledger.{Ledger, refused, went, rowOf, nameOf, isOpen, nowhere, changed, step}
 use Rattle.records.specs.Tally.{starts}
 use Rattle.records.specs.Mirror.{isAbort, endIn, openIn, refusalIn, numberOf}
 use Rattle.records.specs.Judge.{Taken}
 use Rattle.records.proofs.Lines.{line-some}
-use Rattle.records.proofs.Rows.{become-names, one}
-use Rattle.records.proofs.Runs.{Ran, bare, began, moved, movedAt, ran}
-use Rattle.records.proofs.Fields.{rowAfter, after-name, named-started, end-tied}
+use Rattle.records.proofs.Rows.{become-length}
+use Rattle.records.proofs.Runs.{Ran, bare, began, moved, ran}
+use Rattle.records.proofs.Fields.{named-started, end-tied}
 
 -- as many rows as starts
-rows-counted : {h : History} {l : Ledger} → Ran h l → length (l .rows) ≡ count starts h
+pub rows-counted : {h : History} {l : Ledger} → Ran h l → length (l .rows) ≡ count starts h
+unfolding bit
 rows-counted bare = sym (count-empty starts)
 rows-counted (began {h} {t = t} {l = l} r k) = omega (arith, rows-counted r, count-step starts (Start t) h)
-rows-counted (moved {h} {e} {l} r s o) = omega (arith, become-length, rows-counted r, count-step starts e h, ap one s)
-  where
-    become-length : length (movedAt (suc (length h)) e l .rows) ≡ length (l .rows)
-    become-length =
-        sym (length-map (movedAt (suc (length h)) e l .rows) (λ (q : Row). q .name))
-        ∙ ap length (become-names (nameOf e) (rowAfter (suc (length h)) e l o) (after-name (suc (length h)) e l o) (l .rows))
-        ∙ length-map (l .rows) (λ (q : Row). q .name)
+rows-counted (moved {h} {e} {l} r s o) =
+    omega (
+      arith,
+      become-length (l .rows) (nameOf e) (changed (suc (length h)) (length (l .seens)) e (rowOf (l .rows) (nameOf e))),
+      rows-counted r,
+      count-step starts e h,
+      ap bit s,
+    )
 
 -- a row is open exactly if its transaction is
 open-exactly : (h : History) (t : ℕ) → eqb (endIn h t) 0 ≡ openIn h t

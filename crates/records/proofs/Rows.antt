@@ -6,8 +6,9 @@ use mathlib.Core.Logic.{_≢_}
 use mathlib.Core.Bool.{Bool, true, false, cond, _||_, or-true, true≢false, false≢true}
 use mathlib.Core.List.{List, [], _∷_, map}
 use lib.Dec.{eqb}
+use lib.ListN.{length}
 use borrow.Author.Tests.{eqb-true, eq-eqb, ne-eqb}
-use Rattle.lists.specs.Lists.{any, count, Every, none, also}
+use Rattle.lists.specs.Lists.{any, count, bit, Every, none, also}
 use Rattle.lists.specs.Members.{Distinct, apart}
 use Rattle.lists.proofs.Every.{every-both}
 use Rattle.records.specs.declared.Row.{Row}
@@ -74,28 +75,35 @@ module _ (t : ℕ) (q : Row) (same : q .name ≡ t) where
       go true p k = rw (eqb-true (r .name) t p, same)
       go false p k = rw k
 
--- a count moves by the one row
-abbrev pub one : Bool → ℕ
-one b = cond b 1 0
+-- no row comes or goes
+pub become-length : (rs : List Row) (t : ℕ) (q : Row) → length (become rs t q) ≡ length rs
+unfolding become
+become-length [] t q = refl
+become-length (r ∷ rs) t q = go (named t r) (become-length rs t q)
+  where
+    go : (b : Bool) → length (become rs t q) ≡ length rs → length (cond b (q ∷ rs) (r ∷ become rs t q)) ≡ suc (length rs)
+    go true k = refl
+    go false k = ap suc k
 
+-- a count moves by the one row
 pub become-count : (p : Row → Bool) (rs : List Row) (t : ℕ) (q : Row) → any (named t) rs ≡ true
-    → count p (become rs t q) + one (p (rowOf rs t)) ≡ count p rs + one (p q)
-unfolding any rowOf become count
+    → count p (become rs t q) + bit (p (rowOf rs t)) ≡ count p rs + bit (p q)
+unfolding any rowOf become count bit
 become-count p [] t q e = absurd (false≢true e)
 become-count p (r ∷ rs) t q e = go (named t r) (become-count p rs t q) e
   where
-    plain : (a b : Bool) (n : ℕ) → cond a (suc n) n + one b ≡ cond b (suc n) n + one a
+    plain : (a b : Bool) (n : ℕ) → cond a (suc n) n + bit b ≡ cond b (suc n) n + bit a
     plain true true n = omega arith
     plain true false n = omega arith
     plain false true n = omega arith
     plain false false n = omega arith
 
-    past : (a : Bool) (m n : ℕ) → m + one (p (rowOf rs t)) ≡ n + one (p q) → cond a (suc m) m + one (p (rowOf rs t)) ≡ cond a (suc n) n + one (p q)
+    past : (a : Bool) (m n : ℕ) → m + bit (p (rowOf rs t)) ≡ n + bit (p q) → cond a (suc m) m + bit (p (rowOf rs t)) ≡ cond a (suc n) n + bit (p q)
     past true m n k = omega arith
     past false m n k = k
 
-    go : (b : Bool) → (any (named t) rs ≡ true → count p (become rs t q) + one (p (rowOf rs t)) ≡ count p rs + one (p q)) → (b || any (named t) rs) ≡ true
-        → count p (cond b (q ∷ rs) (r ∷ become rs t q)) + one (p (cond b r (rowOf rs t))) ≡ count p (r ∷ rs) + one (p q)
+    go : (b : Bool) → (any (named t) rs ≡ true → count p (become rs t q) + bit (p (rowOf rs t)) ≡ count p rs + bit (p q)) → (b || any (named t) rs) ≡ true
+        → count p (cond b (q ∷ rs) (r ∷ become rs t q)) + bit (p (cond b r (rowOf rs t))) ≡ count p (r ∷ rs) + bit (p q)
     go true k e = plain (p q) (p r) (count p rs)
     go false k e = past (p r) (count p (become rs t q)) (count p rs) (k e)
 

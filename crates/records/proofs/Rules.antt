@@ -3,9 +3,9 @@ use Prim.Native.Nat.{ℕ, _≤_, _<_}
 use native.Mathlib.Omega.{arith}
 use mathlib.Core.Path.{_≡_, refl, _∙_, ap, ap₂}
 use mathlib.Core.Logic.{_↔_, _⊎_, inl, inr}
-use mathlib.Core.Bool.{Bool, true, false, cond, not, _&&_, _||_, or-true, true≢false, false≢true}
+use mathlib.Core.Bool.{Bool, true, false, cond, not, _&&_, _||_, or-true, false≢true}
 use mathlib.Core.List.{List}
-use lib.Dec.{T, eqb, ltb}
+use lib.Dec.{eqb, ltb}
 use lib.IntN.{ℤ, pos, negℤ, _-ℤ_}
 use lib.ListN.{length}
 use lib.Signed.{ltZ, leZ, _<ℤ_, _≤ℤ_}
@@ -13,6 +13,7 @@ use borrow.Author.Tests.{eqb-true, eqb-false, eq-eqb, ne-eqb, lt-ltb, le-ltb, lt
 use Rattle.lists.specs.Lists.{any}
 use Rattle.lists.specs.Along.{Along}
 use Rattle.lists.proofs.Along.{along-with, along-any}
+use Rattle.lists.proofs.Tests.{not-tests}
 use Rattle.units.specs.declared.Bounds.{Bounds}
 use Rattle.records.specs.declared.Row.{Row}
 use Rattle.records.specs.declared.Seen.{Seen}
@@ -24,10 +25,6 @@ use Rattle.records.proofs.Runs.{Ran}
 use Rattle.records.proofs.Fields.{start-tied, bounds-tied}
 use Rattle.records.proofs.Counts.{up-to-tied, between-tied}
 use Rattle.records.proofs.Chains.{reads-tied, reads-below, stamp-le}
-
-not-tests : (b : Bool) → (not b ≡ false) ↔ T b
-not-tests true = (λ e. tt, λ h. refl)
-not-tests false = (λ e. true≢false e, λ h. absurd h)
 
 -- the reading rule of one read
 abbrev pub WithinRC : ReadLine → Type 0

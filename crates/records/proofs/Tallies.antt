@@ -6,7 +6,7 @@ use mathlib.Core.Bool.{Bool, true, false, cond, true≢false}
 use mathlib.Core.List.{[], _∷_}
 use lib.ListN.{length}
 use borrow.Author.Tests.{ne-eqb}
-use Rattle.lists.specs.Lists.{count}
+use Rattle.lists.specs.Lists.{count, bit}
 use Rattle.lists.proofs.Count.{count-le, count-empty, count-step}
 use Rattle.records.specs.declared.Record.{Record}
 use Rattle.records.specs.declared.Record.the-variants.{Start, Tune, Read, Write, Commit, Abort}
@@ -17,7 +17,7 @@ use Rattle.records.specs.Ledger.{Ledger, rowOf, nameOf, isOpen, nowhere,
 use Rattle.records.specs.Totals.{noTotals, raised, more}
 use Rattle.records.specs.Tally.{starts, commits, aborts, totalsOf, Counts}
 use Rattle.records.specs.Judge.{Taken}
-use Rattle.records.proofs.Rows.{open-there, become-count, one}
+use Rattle.records.proofs.Rows.{open-there, become-count}
 use Rattle.records.proofs.Runs.{Ran, bare, began, moved, movedAt, ran}
 use Rattle.records.proofs.Fields.{read-keeps}
 
@@ -67,8 +67,8 @@ aborted-counted = counted (λ (n : Totals). n .aborted) aborts refl raises
     raises (Abort t) n = refl
 
 -- a line of an open transaction ends it, or leaves it open
-ends : (n m : ℕ) (e : Record) (r : Row) → starts e ≡ false → isOpen r ≡ true → one (isOpen (changed (suc n) m e r)) + one (commits e) + one (aborts e) ≡ 1
-unfolding changed
+ends : (n m : ℕ) (e : Record) (r : Row) → starts e ≡ false → isOpen r ≡ true → bit (isOpen (changed (suc n) m e r)) + bit (commits e) + bit (aborts e) ≡ 1
+unfolding changed bit
 ends n m (Start t) r s o = absurd (true≢false s)
 ends n m (Tune t b) r s o = rw o
 ends n m (Read t x w) r s o = rw (read-keeps isOpen r (suc m) (isRecorded r x w) refl, o)
@@ -77,16 +77,18 @@ ends n m (Commit t) r s o = rw (ne-eqb (suc n) 0 (λ e. omega arith))
 ends n m (Abort t) r s o = refl
 
 open-moves : (n : ℕ) (e : Record) (l : Ledger) → starts e ≡ false → isOpen (rowOf (l .rows) (nameOf e)) ≡ true
-    → count isOpen (movedAt (suc n) e l .rows) + one (commits e) + one (aborts e) ≡ count isOpen (l .rows)
+    → count isOpen (movedAt (suc n) e l .rows) + bit (commits e) + bit (aborts e) ≡ count isOpen (l .rows)
+unfolding bit
 open-moves n e l s o =
     omega (
       arith,
       become-count isOpen (l .rows) (nameOf e) (changed (suc n) (length (l .seens)) e (rowOf (l .rows) (nameOf e))) (open-there (l .rows) (nameOf e) o),
       ends n (length (l .seens)) e (rowOf (l .rows) (nameOf e)) s o,
-      ap one o,
+      ap bit o,
     )
 
 open-rows : {h : History} {l : Ledger} → Ran h l → count isOpen (l .rows) + count commits h + count aborts h ≡ count starts h
+unfolding bit
 open-rows bare = omega (arith, count-empty {A = Row} isOpen, count-empty commits, count-empty aborts, count-empty starts)
 open-rows (began {h} {t = t} {l = l} r k) =
     omega (
@@ -98,10 +100,11 @@ open-rows (began {h} {t = t} {l = l} r k) =
       open-rows r,
     )
 open-rows (moved {h} {e} {l} r s o) =
-    omega (arith, open-moves (length h) e l s o, count-step commits e h, count-step aborts e h, count-step starts e h, ap one s, open-rows r)
+    omega (arith, open-moves (length h) e l s o, count-step commits e h, count-step aborts e h, count-step starts e h, ap bit s, open-rows r)
 
 -- the fourth: still open
-lowers : (e : Record) (n : Totals) → starts e ≡ false → raised e n .«open» ≡ n .«open» - one (commits e) - one (aborts e)
+lowers : (e : Record) (n : Totals) → starts e ≡ false → raised e n .«open» ≡ n .«open» - bit (commits e) - bit (aborts e)
+unfolding bit
 lowers (Start t) n s = absurd (true≢false s)
 lowers (Tune t b) n s = omega arith
 lowers (Read t x w) n s = omega arith
@@ -110,7 +113,7 @@ lowers (Commit t) n s = omega arith
 lowers (Abort t) n s = omega arith
 
 open-counted : {h : History} {l : Ledger} → Ran h l → length h ≤ nowhere → totalsOf h .«open» ≡ count isOpen (l .rows)
-unfolding totalsOf
+unfolding totalsOf bit
 open-counted bare small = sym (count-empty {A = Row} isOpen)
 open-counted (began {h} {t = t} {l = l} r k) small =
     omega (arith, count-step isOpen (freshRow (suc (length h)) t) (l .rows), open-counted r (omega arith), open-rows r, count-le starts h)

@@ -7,12 +7,20 @@ use Rattle.records.specs.declared.Verdict.the-variants.{Ok, FV}
 use Rattle.records.specs.declared.Judged.{Judged}
 use Rattle.records.specs.declared.Totals.{Totals}
 use Rattle.records.specs.Ledger.{Ledger}
+use Rattle.records.specs.Totals.{noTotals}
 use Rattle.records.specs.Tally.{totalsOf}
 use Rattle.records.specs.Judge.{Taken}
 
 -- "`s 1`, `s 2`, `w 1 5`, `c 1`, `r 2 5 1`, `c 2`"
 abbrev pub lines : List Record
 lines = Start 1 ∷ Start 2 ∷ Write 1 5 ∷ Commit 1 ∷ Read 2 5 1 ∷ Commit 2 ∷ []
+
+-- "`judge 2`, `1 ok`, `2 FV`, `total 2 2 0 0`"
+abbrev pub judgedTwo : List Judged
+judgedTwo = record { name = 1; verdict = Ok } ∷ record { name = 2; verdict = FV } ∷ []
+
+abbrev pub totalTwo : Totals
+totalTwo = record { started = 2; committed = 2; aborted = 0; «open» = 0 }
 
 -- what is said of the lines of a history: the verdicts, and the totals
 pub record Says (records : List Record) (judged : List Judged) (total : Totals) : Type 0 where
@@ -21,9 +29,9 @@ pub record Says (records : List Record) (judged : List Judged) (total : Totals) 
   pub verdicts : reverse (ledger .judged) ≡ judged
   pub totals : totalsOf (reverse records) ≡ total
 
--- "`judge 2`, `1 ok`, `2 FV`, `total 2 2 0 0`"; "Empty input: `judge 0`, `total 0 0 0 0`"
 abbrev pub P10 : Type 0
-P10 = Says lines (record { name = 1; verdict = Ok } ∷ record { name = 2; verdict = FV } ∷ []) (record { started = 2; committed = 2; aborted = 0; «open» = 0 })
+P10 = Says lines judgedTwo totalTwo
 
+-- "Empty input: `judge 0`, `total 0 0 0 0`"
 abbrev pub Empty : Type 0
-Empty = Says [] [] (record { started = 0; committed = 0; aborted = 0; «open» = 0 })
+Empty = Says [] [] noTotals

@@ -1,5 +1,6 @@
 pub mod Written
 pub mod Ledger
+pub mod Order
 pub mod Totals
 pub mod Tally
 pub mod Mirror

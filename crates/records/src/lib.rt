@@ -53,7 +53,7 @@ pub struct Totals {
     pub open: u32,
 }
 
-// No line of a history has these numbers.
-pub const ABORTED: u32 = 4294967295;
-
+// No line of a history has this number. An aborted transaction ends nowhere: it made no version.
 pub const NOWHERE: u32 = 4294967295;
+
+pub const ABORTED: u32 = NOWHERE;

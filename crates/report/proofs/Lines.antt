@@ -8,10 +8,12 @@ use lib.ListN.{length, getD, length-append}
 use Rattle.decimal.specs.Text.{decimal, joined}
 use Rattle.decimal.specs.Write.{Puts}
 use Rattle.decimal.proofs.Putting.{puts-then, puts-none, puts-more}
+use Rattle.records.specs.Order.{verdictFrom}
+use Rattle.records.proofs.Order.{verdict-past}
 use Rattle.records.specs.declared.Judged.{Judged}
 use Rattle.records.specs.declared.Totals.{Totals}
 use Rattle.records.specs.declared.Verdict.the-variants.{WC}
-use Rattle.report.specs.Report.{lineOf, judge, total, refused, verdictAt, verdictWord, judged, judgedList, headLine, verdictLine, verdictLines, totalLine, reportText, refusedText}
+use Rattle.report.specs.Report.{lineOf, judge, total, refused, verdictWord, judged, judgedList, headLine, verdictLine, verdictLines, totalLine, reportText, refusedText}
 
 -- ---- a line, field by field
 
@@ -27,7 +29,7 @@ pub head-put : {b c d : List ℕ} {at m r : ℕ} (n : ℕ) → Puts b c at (judg
 unfolding headLine
 head-put n p q = line-then _ _ _ p (line-last _ q)
 
-pub verdict-put : {b c d w : List ℕ} {at m r : ℕ} (name code : ℕ) → w ≡ verdictWord (verdictAt code) → Puts b c at (decimal name ++ (32 ∷ [])) m → Puts c d m (w ++ (10 ∷ [])) r
+pub verdict-put : {b c d w : List ℕ} {at m r : ℕ} (name code : ℕ) → w ≡ verdictWord (verdictFrom code) → Puts b c at (decimal name ++ (32 ∷ [])) m → Puts c d m (w ++ (10 ∷ [])) r
     → Puts b d at (verdictLine (judged name code)) r
 unfolding verdictLine
 verdict-put {c = c} {d = d} {m = m} {r = r} name code e p q = line-then _ _ _ p (line-last _ (subst (λ (l : List ℕ). Puts c d m (l ++ (10 ∷ [])) r) e q))
@@ -45,18 +47,12 @@ refused-put number line p q s = line-then _ _ _ p (line-then _ _ _ q (line-last 
 
 -- ---- the verdicts
 
-pub word-at : (code k : ℕ) → code ≡ k → verdictWord (verdictAt k) ≡ verdictWord (verdictAt code)
-word-at code k e = sym (ap (λ (n : ℕ). verdictWord (verdictAt n)) e)
+pub word-at : (code k : ℕ) → code ≡ k → verdictWord (verdictFrom k) ≡ verdictWord (verdictFrom code)
+word-at code k e = sym (ap (λ (n : ℕ). verdictWord (verdictFrom n)) e)
 
 -- a number past the rules is the last of them
-pub word-last : (code : ℕ) → 5 ≤ code → verdictWord WC ≡ verdictWord (verdictAt code)
-unfolding verdictAt
-word-last zero h = absurd (omega arith)
-word-last (suc zero) h = absurd (omega arith)
-word-last (suc (suc zero)) h = absurd (omega arith)
-word-last (suc (suc (suc zero))) h = absurd (omega arith)
-word-last (suc (suc (suc (suc zero)))) h = absurd (omega arith)
-word-last (suc (suc (suc (suc (suc n))))) h = refl
+pub word-last : (code : ℕ) → 5 ≤ code → verdictWord WC ≡ verdictWord (verdictFrom code)
+word-last code h = ap verdictWord (verdict-past code h)
 
 module _ (names codes : List ℕ) where
   pub judged-length : (n : ℕ) → length (judgedList names codes n) ≡ n

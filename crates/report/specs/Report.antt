@@ -5,6 +5,7 @@ use Prim.Native.Nat.{ℕ, zero, suc}
 use mathlib.Core.List.{List, [], _∷_, _++_}
 use lib.ListN.{length, getD}
 use Rattle.decimal.specs.Text.{decimal, joined}
+use Rattle.records.specs.Order.{verdictFrom}
 use Rattle.records.specs.declared.Judged.{Judged}
 use Rattle.records.specs.declared.Totals.{Totals}
 use Rattle.records.specs.declared.Verdict.{Verdict}
@@ -55,17 +56,9 @@ refusedText number line = lineOf refused (decimal number ∷ decimal line ∷ []
 
 -- ---- the verdicts in two columns
 
--- a verdict by its place in the order ok, RC, BV, FV, SV, WC; a number past them is the last
-unfoldable pub verdictAt : ℕ → Verdict
-verdictAt zero = Ok
-verdictAt (suc zero) = RC
-verdictAt (suc (suc zero)) = BV
-verdictAt (suc (suc (suc zero))) = FV
-verdictAt (suc (suc (suc (suc zero)))) = SV
-verdictAt (suc (suc (suc (suc (suc n))))) = WC
-
+-- whose, and the verdict by its place in the order
 abbrev pub judged : ℕ → ℕ → Judged
-judged name code = record { name = name; verdict = verdictAt code }
+judged name code = record { name = name; verdict = verdictFrom code }
 
 -- the first n verdicts, the oldest first
 unfoldable pub judgedList : List ℕ → List ℕ → ℕ → List Judged

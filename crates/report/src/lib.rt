@@ -5,7 +5,8 @@ ghost use mathlib.Core.List.{_∷_, _++_, []};
 ghost use lib.ListN.{length};
 ghost use Rattle.decimal.specs.Text.{decimal};
 ghost use Rattle.decimal.specs.Write.{put, Puts};
-ghost use Rattle.report.specs.Report.{verdictAt, verdictWord, judged, judgedList, headLine, verdictLine, verdictLines, totalLine, reportText, refusedText};
+ghost use Rattle.records.specs.Order.{verdictFrom};
+ghost use Rattle.report.specs.Report.{verdictWord, judged, judgedList, headLine, verdictLine, verdictLines, totalLine, reportText, refusedText};
 ghost use Rattle.report.specs.Write.{writtenAs};
 use decimal::NEWLINE;
 use decimal::Put;
@@ -141,7 +142,7 @@ fn put_verdict(text: &mut [u8], at: usize, name: u32, code: u8) -> usize
 }
 
 fn word_of(code: u8) -> [u8; 2]
-    ensures { λ r. ⌜ r ≡ verdictWord (verdictAt code) ⌝ }
+    ensures { λ r. ⌜ r ≡ verdictWord (verdictFrom code) ⌝ }
 {
     match code {
         0 => *b"ok",

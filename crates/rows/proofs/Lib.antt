@@ -1,5 +1,5 @@
-pub mod Count
 pub mod Words
 pub mod Walk
 pub mod Lines
 pub mod Stored
+pub mod Determined

@@ -8,7 +8,7 @@ use lib.Dec.{eqb, leb, ltb}
 use lib.Pow.{pow-mono}
 use borrow.Author.Tests.{lt-ltb, le-ltb, le-leb, lt-leb, ltb-false}
 use Rattle.records.specs.Ledger.{has, nowhere}
-use Rattle.rows.specs.Table.{bit}
+use Rattle.lists.specs.Lists.{bit}
 
 pub has-past : (word x : ℕ) → word < 2 ^ 64 → 64 ≤ x → has word x ≡ false
 has-past word x h k = rw (div-eq-of-lt (lt-of-lt-of-le h (pow-mono k)))

@@ -1,6 +1,6 @@
 -- The rows of the transactions started, in eight columns: what the columns stand for, newest first, the row at a place, and a row stored.
 use Prim.Native.Nat.{ℕ, zero, suc, min}
-use mathlib.Core.Bool.{Bool, true, false, cond, _&&_}
+use mathlib.Core.Bool.{Bool, cond, _&&_}
 use mathlib.Core.List.{List, [], _∷_}
 use mathlib.Core.Path.{_≡_}
 use lib.Dec.{leb, ltb}
@@ -79,11 +79,6 @@ madeWithin x after until r = has (r .keys) x && (ltb after (r .end) && leb (r .e
 
 unfoldable pub rowsWithin : List Row → ℕ → ℕ → ℕ → ℕ
 rowsWithin rows x after until = count (madeWithin x after until) rows
-
--- a test as a number
-unfoldable pub bit : Bool → ℕ
-bit true = 1
-bit false = 0
 
 -- the columns have their 512 places
 pub record Sized (t : Table) : Type 0 where

@@ -4,9 +4,10 @@ ghost use Prim.Native.Nat.{ℕ};
 ghost use mathlib.Core.Bool.{_&&_, cond};
 ghost use mathlib.Core.Path.{_≡_};
 ghost use lib.Dec.{leb, ltb};
-ghost use Rattle.lists.specs.Lists.{any};
+ghost use Rattle.lists.specs.Lists.{any, bit};
 ghost use Rattle.records.specs.Ledger.{has, meets, noRow, nowhere, overtakes, resolved, rowsBetween};
-ghost use Rattle.rows.specs.Table.{Table, Sized, table, withNames, withVersions, used, rowsOf, placeOf, loaded, stored, rowsWithin, bit};
+ghost use Rattle.rows.specs.Table.{Table, Sized, table, withNames, withVersions, used, rowsOf, placeOf, loaded, stored, rowsWithin};
+use records::ABORTED;
 use records::NOWHERE;
 use records::Row;
 use units::Bounds;
@@ -77,7 +78,7 @@ fn no_row() -> Row
     Row {
         name: 0,
         start: 0,
-        end: NOWHERE,
+        end: ABORTED,
         keys: 0,
         bounds: Bounds {
             k1: 0,

@@ -8,11 +8,13 @@ use lib.Dec.{leb, ltb, leb·zero}
 use lib.IntN.{ℤ, pos, negsuc, negℤ, _-ℤ_}
 use lib.Signed.{ltZ, leZ}
 use borrow.Author.Tests.{ltb-false, leb-true, leb-false, lt-ltb, le-ltb, le-leb, lt-leb}
+use Rattle.lists.specs.Lists.{bit}
+use Rattle.lists.proofs.Every.{every-each}
+use Rattle.lists.proofs.Count.{count-both}
 use Rattle.records.specs.Ledger.{has, rowsUpTo, madeUpTo}
 use Rattle.records.specs.declared.Row.{Row}
 use Rattle.records.specs.declared.Seen.{Seen}
-use Rattle.rows.specs.Table.{rowsWithin, madeWithin, bit}
-use Rattle.rows.proofs.Count.{count-both}
+use Rattle.rows.specs.Table.{rowsWithin, madeWithin}
 use Rattle.trial.specs.Trial.{farOf}
 
 module _ (low high : ℕ) (h : low ≤ high) where
@@ -32,7 +34,7 @@ module _ (low high : ℕ) (h : low ≤ high) where
   unfolding rowsUpTo rowsWithin
   up-to-more rows x =
       count-both (madeUpTo x high) (madeUpTo x low) (madeWithin x low high)
-      (λ r. one (has (r .keys) x) (r .end) (leb (r .end) low) refl (leb (r .end) high) refl (ltb 0 (r .end)) refl) rows
+      (every-each (λ r. one (has (r .keys) x) (r .end) (leb (r .end) low) refl (leb (r .end) high) refl (ltb 0 (r .end)) refl) rows)
 
 difference : (a b : ℕ) → b ≤ a → pos a -ℤ pos b ≡ pos (a - b)
 difference a zero h = let e : a + 0 ≡ a - 0 = omega arith in ap pos e

@@ -8,24 +8,21 @@ use lib.Dec.{leb, ltb}
 use lib.ListN.{length}
 use borrow.Author.Tests.{ltb-true, ltb-false, lt-ltb, le-ltb, leb-true, leb-false, eq-eqb, ne-eqb}
 use Rattle.lists.specs.Lists.{any, find}
+use Rattle.lists.proofs.Every.{every-each}
+use Rattle.lists.proofs.Any.{any-same}
+use Rattle.lists.proofs.Count.{count-mono}
 use Rattle.records.specs.Ledger.{first, unread, stale, early, apart, overtakes, verdictOn, rowsBetween, madeBetween, has}
 use Rattle.records.specs.declared.Row.{Row}
 use Rattle.records.specs.declared.Seen.{Seen}
 use Rattle.records.specs.declared.Verdict.{Verdict}
 use Rattle.records.specs.declared.Verdict.the-variants.{Ok, RC, BV, FV, SV, WC}
-use Rattle.rows.proofs.Count.{count-mono}
 use Rattle.rows.proofs.Lines.{between-none}
 use Rattle.trial.specs.Trial.{latestOf, outrun, rules, rankOf, farOf, leastOf, ruled}
-
-any-same : {A : Type 0} (p q : A → Bool) → ((x : A) → p x ≡ q x) → (l : List A) → any p l ≡ any q l
-unfolding any
-any-same p q h [] = refl
-any-same p q h (x ∷ xs) = rw (h x, any-same p q h xs)
 
 -- more versions lie before a later line
 pub between-grows : (rows : List Row) (x after low high : ℕ) → low ≤ high → rowsBetween rows x after low ≤ rowsBetween rows x after high
 unfolding rowsBetween
-between-grows rows x after low high h = count-mono (madeBetween x after low) (madeBetween x after high) (λ r. one (has (r .keys) x) (ltb after (r .end)) (r .end) (ltb (r .end) low) refl) rows
+between-grows rows x after low high h = count-mono (madeBetween x after low) (madeBetween x after high) (every-each (λ r. one (has (r .keys) x) (ltb after (r .end)) (r .end) (ltb (r .end) low) refl) rows)
   where
     one : (a b : Bool) (e : ℕ) (c : Bool) → ltb e low ≡ c → (a && (b && ltb e low)) ≡ true → (a && (b && ltb e high)) ≡ true
     one true true e true f t = lt-ltb e high (omega (arith, ltb-true e low f))
@@ -112,7 +109,7 @@ module _ (rows : List Row) (ss : List Seen) (line : ℕ) (r : Row) where
   pub verdict-ruled : verdictOn rows ss line r ≡ ruled (leastOf (rules rows r (latestOf ss)) ss) (first (any (overtakes line r) rows) WC Ok)
   unfolding verdictOn firstOf find
   verdict-ruled =
-      rw (least-first (rules rows r (latestOf ss)) ss, any-same (outrun rows r (latestOf ss)) (λ (x : Seen). any (apart rows r x) ss) (λ x. outrun-any rows r x ss) ss)
+      rw (least-first (rules rows r (latestOf ss)) ss, any-same (outrun rows r (latestOf ss)) (λ (x : Seen). any (apart rows r x) ss) (every-each (λ x. outrun-any rows r x ss) ss))
       (ruled-by (any unread ss) (any (stale rows r) ss) (any (early rows r) ss) (any (λ (x : Seen). any (apart rows r x) ss) ss) _)
 
   -- each answer, where y is the latest line read and n the least rank

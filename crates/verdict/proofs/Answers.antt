@@ -1,30 +1,28 @@
 -- From what the pass came to, to the reply and the room.
-use Prim.Native.Nat.{ℕ, zero, suc, _≤_, _<_, min}
+use Prim.Native.Nat.{ℕ, _≤_, _<_, min}
 use mathlib.Core.Path.{_≡_, refl, sym, ap, _∙_}
 use mathlib.Core.Bool.{Bool, true, false, cond}
-use mathlib.Core.List.{List, [], _∷_, reverse}
+use mathlib.Core.List.{List, reverse}
 use borrow.Author.Tests.{lt-ltb, le-ltb}
 use lib.Dec.{leb}
-use lib.ListN.{length, getD}
+use lib.ListN.{length}
 use Rattle.units.specs.Refusal.{numberOf}
 use Rattle.units.specs.declared.refusal.Refusal.{Refusal}
 use Rattle.units.specs.declared.refusal.Refusal.the-variants.{NoRoom}
 use Rattle.records.specs.declared.Judged.{Judged}
 use Rattle.records.specs.declared.Totals.{Totals}
-use Rattle.records.specs.declared.Verdict.{Verdict}
 use Rattle.records.specs.Ledger.{blank}
 use Rattle.records.specs.Totals.{noTotals}
 use Rattle.ledger.specs.declared.Counts.{Counts}
-use Rattle.ledger.specs.Books.{Verdicts, verdicts, verdictFrom, judgedAt, judgedOf}
+use Rattle.ledger.specs.Books.{verdicts, judgedOf}
 use Rattle.report.specs.declared.Written.{Written}
 use Rattle.report.specs.declared.Written as written
-use Rattle.report.specs.Report.{verdictAt, judgedList, reportText}
-use Rattle.report.specs.Report as report
+use Rattle.report.specs.Report.{judgedList, reportText}
 use Rattle.report.specs.Write.{writtenAs}
 use Rattle.report.proofs.Lines.{judged-reverse}
 use Rattle.verdict.specs.declared.Ran.{Ran}
 use Rattle.verdict.specs.declared.Ran.the-variants.{Done, Refused}
-use Rattle.verdict.specs.Judge.{Report, refused, judged, lines, reportOf}
+use Rattle.verdict.specs.Judge.{Report, judged, lines, reportOf}
 use Rattle.verdict.specs.Reply.{Reply, bytes, refusedAt, replied, roomAfter, ranTo}
 
 -- ---- the report written, or without room
@@ -46,24 +44,9 @@ finished js t room p q = ap heard (sym q ∙ p) ∙ heard-text js t room
 
 -- ---- the verdicts in order of commit lines, from the columns
 
-verdict-same : (n : ℕ) → verdictFrom n ≡ verdictAt n
-unfolding verdictFrom verdictAt
-verdict-same zero = refl
-verdict-same (suc zero) = refl
-verdict-same (suc (suc zero)) = refl
-verdict-same (suc (suc (suc zero))) = refl
-verdict-same (suc (suc (suc (suc zero)))) = refl
-verdict-same (suc (suc (suc (suc (suc n))))) = refl
-
 verdicts-oldest : (names codes : List ℕ) (n : ℕ) → judgedList names codes n ≡ reverse (judgedOf (verdicts names codes) n)
 unfolding judgedOf
-verdicts-oldest names codes = judged-reverse names codes (judgedOf (verdicts names codes)) none more
-  where
-    none : judgedOf (verdicts names codes) 0 ≡ []
-    none = refl
-
-    more : (n : ℕ) → judgedOf (verdicts names codes) (suc n) ≡ report.judged (getD names n 0) (getD codes n 0) ∷ judgedOf (verdicts names codes) n
-    more n = ap (λ (v : Verdict). record { name = getD names n 0; verdict = v } ∷ judgedOf (verdicts names codes) n) (verdict-same (getD codes n 0))
+verdicts-oldest names codes = judged-reverse names codes (judgedOf (verdicts names codes)) refl (λ n. refl)
 
 -- ---- the whole answer
 

@@ -4,6 +4,7 @@ pub mod Pass
 pub mod Answers
 pub mod Shown
 pub mod Right
+pub mod Determined
 pub mod Example
 pub mod Ends
 pub mod Refused

@@ -1,35 +1,27 @@
 -- What a history of at most 4,096 lines leaves room for: no read and no verdict is ever dropped.
-use Prim.Native.Nat.{ℕ, suc, _+_, _≤_, _<_}
+use Prim.Native.Nat.{ℕ, suc, _≤_, _<_}
 use native.Mathlib.Omega.{arith}
-use mathlib.Core.Path.{_≡_, refl, sym, ap, _∙_}
-use mathlib.Core.Bool.{Bool, true, false, cond, false≢true}
-use mathlib.Core.List.{List, [], _∷_}
-use borrow.Author.Tests.{leb-false}
+use mathlib.Core.Path.{_≡_, refl, _∙_}
+use mathlib.Core.Bool.{Bool, true, false, cond}
+use mathlib.Core.List.{List, _∷_}
+use borrow.Author.Tests.{leb-false, ltb-true}
 use lib.Dec.{leb}
 use lib.ListN.{length}
 use Rattle.lists.specs.Lists.{any, count}
-use Rattle.lists.proofs.Count.{count-empty, count-step}
+use Rattle.lists.proofs.Count.{any-count}
 use Rattle.records.specs.declared.Record.{Record}
 use Rattle.records.specs.declared.Record.the-variants.{Start, Tune, Read, Write, Commit, Abort}
 use Rattle.records.specs.declared.Row.{Row}
 use Rattle.records.specs.declared.Seen.{Seen}
 use Rattle.records.specs.Written.{History}
-use Rattle.records.specs.Ledger.{Ledger, Outcome, refused, went, nameOf, named, rowOf, become, isOpen, isRecorded, changed, noted, step}
-use Rattle.records.specs.Tally.{starts, totalsOf, Counts}
+use Rattle.records.specs.Ledger.{Ledger, refused, went, nameOf, named, rowOf, isOpen, isRecorded, changed, noted, step}
+use Rattle.records.specs.Tally.{totalsOf, Counts}
 use Rattle.records.specs.Judge.{Taken, nothing, line, Right}
-use Rattle.records.proofs.Rows.{one}
+use Rattle.records.proofs.Rows.{open-there, any-row, become-length}
 use Rattle.records.proofs.Runs.{Ran, bare, began, moved, movedAt, begunAt, ran}
+use Rattle.records.proofs.Refused.{rows-counted}
 use Rattle.records.proofs.Verdicts.{judge-right}
 use Rattle.records.proofs.Tallies.{totals-right}
-
-become-length : (rs : List Row) (t : ℕ) (q : Row) → length (become rs t q) ≡ length rs
-unfolding become
-become-length [] t q = refl
-become-length (r ∷ rs) t q = go (named t r) (become-length rs t q)
-  where
-    go : (b : Bool) → length (become rs t q) ≡ length rs → length (cond b (q ∷ rs) (r ∷ become rs t q)) ≡ suc (length rs)
-    go true k = refl
-    go false k = ap suc k
 
 -- ---- "512 transactions": a start past them is refused
 
@@ -62,19 +54,6 @@ pub rows-most : {h : History} {l : Ledger} → Taken h l → length (l .rows) �
 rows-most nothing = omega arith
 rows-most (line {h} {r = e} {l = l} {l′ = m} t q) = rows-step (suc (length h)) e l m (rows-most t) q
 
--- as many rows as starts
-rows-counted : {h : History} {l : Ledger} → Ran h l → length (l .rows) ≡ count starts h
-rows-counted bare = sym (count-empty starts)
-rows-counted (began {h} {t = t} {l = l} r k) = omega (arith, rows-counted r, count-step starts (Start t) h)
-rows-counted (moved {h} {e} {l} r s o) =
-    omega (
-      arith,
-      become-length (l .rows) (nameOf e) (changed (suc (length h)) (length (l .seens)) e (rowOf (l .rows) (nameOf e))),
-      rows-counted r,
-      count-step starts e h,
-      ap one s,
-    )
-
 -- ---- each line records at most one read
 
 noted-most : (rows : List Row) (e : Record) (r : Row) (ss : List Seen) → length (noted rows e r ss) ≤ suc (length ss)
@@ -100,14 +79,8 @@ seens-most t = seens-ran (ran t)
 
 -- ---- an open row is one that has no verdict yet
 
-open-some : (rs : List Row) (t : ℕ) → isOpen (rowOf rs t) ≡ true → 1 ≤ count isOpen rs
-unfolding rowOf
-open-some [] t o = absurd (false≢true o)
-open-some (r ∷ rs) t o = go (named t r) (open-some rs t) o
-  where
-    go : (b : Bool) → (isOpen (rowOf rs t) ≡ true → 1 ≤ count isOpen rs) → isOpen (cond b r (rowOf rs t)) ≡ true → 1 ≤ count isOpen (r ∷ rs)
-    go true k o = omega (arith, count-step isOpen r rs, ap one o)
-    go false k o = omega (arith, count-step isOpen r rs, k o)
+open-some : (rs : List Row) (t : ℕ) → isOpen (rowOf rs t) ≡ true → 0 < count isOpen rs
+open-some rs t o = ltb-true 0 (count isOpen rs) (any-count isOpen rs (count isOpen rs) refl ∙ any-row isOpen rs t (open-there rs t o) o)
 
 pub judged-room : {h : History} {l : Ledger} → Taken h l → length h ≤ 4096 → (t : ℕ) → isOpen (rowOf (l .rows) t) ≡ true → length (l .judged) < 512
 judged-room {h} {l} taken few t o =

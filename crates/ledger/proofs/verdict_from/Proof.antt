@@ -1,7 +1,8 @@
 -- `verdict_from` meets its contract: a case for each number.
+use native.Mathlib.Omega.{arith}
 use mathlib.Core.Path.{sym, ap}
-use Rattle.ledger.specs.Books.{verdictFrom}
-use Rattle.ledger.proofs.Push.{verdict-past}
+use Rattle.records.specs.Order.{verdictFrom}
+use Rattle.records.proofs.Order.{verdict-past}
 use Rattle.ledger.proofs.verdict_from.Statement.{statement}
 use Rattle.ledger.proofs.verdict_from.Tie as tie
 
@@ -26,7 +27,7 @@ unfolding verdictFrom
 returns-5 c = sym (ap verdictFrom (c .match .keys5))
 
 returns-6 : tie.Need-returns-6
-returns-6 c = let m = c .match .rest in verdict-past _ (m .0 .0 .0 .0 .1) (m .0 .0 .0 .1) (m .0 .0 .1) (m .0 .1) (m .1)
+returns-6 c = let m = c .match .rest in verdict-past _ (omega (arith, m .0 .0 .0 .0 .1, m .0 .0 .0 .1, m .0 .0 .1, m .0 .1, m .1))
 
 pub verdict-from-spec : {M : Type 1} → statement M
 verdict-from-spec = tie.close (tie.spec returns returns-2 returns-3 returns-4 returns-5 returns-6)

@@ -5,7 +5,7 @@ use native.Mathlib.Omega.{arith}
 use mathlib.Core.Path.{_≡_, refl}
 use Rattle.lists.specs.Lists as lists
 use Rattle.rows.specs.Table.{Table, withVersions, used, rowsOf, rowsWithin, madeWithin}
-use Rattle.rows.proofs.Count.{bit-le, count-more}
+use Rattle.lists.proofs.Count.{bit-le, count-more}
 use borrow.Author.Needs.{needs}
 use Rattle.rows.proofs.count_within.Statement.{statement}
 use Rattle.rows.proofs.count_within.Tie as tie

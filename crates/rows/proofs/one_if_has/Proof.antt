@@ -1,6 +1,6 @@
 -- `one_if_has` meets its contract: the digit is the bit.
 use mathlib.Core.Path.{sym, ap}
-use Rattle.rows.specs.Table.{bit}
+use Rattle.lists.specs.Lists.{bit}
 use Rattle.rows.proofs.Words.{has-past, has-bit}
 use borrow.Author.Needs.{needs}
 use Rattle.rows.proofs.one_if_has.Statement.{statement}

@@ -1,6 +1,6 @@
 -- `one_if_overtakes` meets its contract: each test that fails makes 0.
 use borrow.Author.Tests.{lt-ltb, le-ltb, eq-eqb, ne-eqb}
-use Rattle.rows.specs.Table.{bit}
+use Rattle.lists.specs.Lists.{bit}
 use Rattle.rows.proofs.one_if_overtakes.Statement.{statement}
 use Rattle.rows.proofs.one_if_overtakes.Tie as tie
 

@@ -6,7 +6,7 @@ use mathlib.Core.Path.{_≡_, refl}
 use Rattle.lists.specs.Lists as lists
 use Rattle.records.specs.Ledger.{overtakes}
 use Rattle.rows.specs.Table.{Table, withVersions, used, rowsOf, rowsWithin}
-use Rattle.rows.proofs.Count.{bit-le, count-more, any-count}
+use Rattle.lists.proofs.Count.{bit-le, count-more, any-count}
 use borrow.Author.Needs.{needs}
 use Rattle.rows.proofs.overtaken.Statement.{statement}
 use Rattle.rows.proofs.overtaken.Tie as tie
