@@ -118,7 +118,7 @@ impl Maker {
     }
 
     fn any_number(&mut self) -> u32 {
-        if self.ended.is_empty() || self.r.one_in(3) { self.r.between(1, 40) as u32 } else { self.r.pick(&self.ended.clone()) }
+        if self.ended.is_empty() || self.r.one_in(3) { self.r.between(1, 40) as u32 } else { self.r.pick(&self.ended) }
     }
 
     fn start(&mut self) {
@@ -146,7 +146,7 @@ impl Maker {
         }
         let i = self.r.below(self.open.len() as u64) as usize;
         let number = self.open[i].number;
-        match self.r.weighted(&self.weights.clone()) {
+        match self.r.weighted(&self.weights) {
             0 => self.tune(number),
             1 => self.read(i),
             2 => {
@@ -174,7 +174,7 @@ impl Maker {
         } else if self.r.one_in(40) {
             self.r.below(u64::from(KEYS)) as u32
         } else {
-            self.r.pick(&self.keys.clone())
+            self.r.pick(&self.keys)
         }
     }
 
@@ -182,7 +182,7 @@ impl Maker {
         let number = self.open[i].number;
         let mut key = self.key();
         if !self.open[i].read.is_empty() && self.r.one_in(4) {
-            key = self.r.pick(&self.open[i].read.clone());
+            key = self.r.pick(&self.open[i].read);
         }
         self.open[i].read.push(key);
         let writers: Vec<u32> = self.committed.iter().rev().filter(|c| c.1.contains(&key)).map(|c| c.0).collect();
@@ -204,7 +204,7 @@ impl Maker {
         match self.r.below(4) {
             0 => self.open[i].number,
             1 => self.r.pick(&open),
-            2 if !self.ended.is_empty() => self.r.pick(&self.ended.clone()),
+            2 if !self.ended.is_empty() => self.r.pick(&self.ended),
             _ => self.r.next() as u32,
         }
     }

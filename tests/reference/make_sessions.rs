@@ -237,7 +237,7 @@ impl Maker {
             0 => KEYS + self.r.below(2) as u32,
             1 => self.number(),
             2..=5 => self.r.below(u64::from(KEYS)) as u32,
-            _ => self.r.pick(&self.keys.clone()),
+            _ => self.r.pick(&self.keys),
         }
     }
 
@@ -289,8 +289,7 @@ impl Maker {
         if self.stamps.is_empty() || self.r.one_in(20) {
             return self.number();
         }
-        let stamps = self.stamps.clone();
-        if self.r.one_in(2) { *stamps.last().unwrap() } else { self.r.pick(&stamps) }
+        if self.r.one_in(2) { *self.stamps.last().unwrap() } else { self.r.pick(&self.stamps) }
     }
 
     /// Enough mostly; else just enough or just too little.

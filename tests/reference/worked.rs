@@ -1,4 +1,4 @@
-// Document 01's worked sessions P1 to P10 and the refusals beside them: `rustc --test main.rs`, then run the result.
+// Document 01's worked sessions P1 to P10 and the refusals beside them: `rustc --edition 2024 --test main.rs`, then run the result.
 
 use crate::history;
 use crate::session;
