@@ -1,17 +1,14 @@
 #!/usr/bin/env python3
-"""Judges two histories at document 01's limits, and 4,096 lines of ordinary work, beside `wc` on the same files, and prints medians.
+"""Judges two histories at document 01's limits, and 4,096 lines of ordinary work, beside the Rust reference and beside `wc`.
 
-    bench/judge.py      (after ./zoribhat judge has built the program once)
+    bench/judge.py      (after ./zoribhat compare 0 0 has built both)
 """
-import os
-import platform
 import random
-import subprocess
-import tempfile
-import time
+import sys
 
-top = os.path.dirname(os.path.dirname(os.path.abspath(__file__)))
-judge = os.path.join(top, "target/bin/judge")
+import beside
+
+RUNS = 30
 random.seed(1)
 
 
@@ -19,7 +16,8 @@ def one_reader():
     lines = []
     for i in range(1, 512):
         lines += ["s\t%d" % i, "w\t%d\t5" % i, "c\t%d" % i]
-    return lines + ["s\t9999"] + ["r\t9999\t5\t%d" % random.randint(1, 511) for _ in range(2500)] + ["c\t9999"]
+    # Bounds that nothing breaks, so that every rule is walked to its end.
+    return lines + ["s\t9999", "k\t9999\t65535\t65535\t65535"] + ["r\t9999\t5\t%d" % random.randint(1, 511) for _ in range(2500)] + ["c\t9999"]
 
 
 def all_open():
@@ -30,26 +28,29 @@ def all_open():
 
 
 def ordinary():
-    lines = []
-    for i in range(1, 513):
-        lines += ["s\t%d" % i, "k\t%d\t2\t1\t1" % i, "r\t%d\t%d\t0" % (i, i % 64), "r\t%d\t%d\t%d" % (i, (i - 1) % 64, i - 1), "w\t%d\t%d" % (i, i % 64), "w\t%d\t%d" % (i, (i + 7) % 64), "r\t%d\t%d\t%d" % (i, i % 64, i), "c\t%d" % i]
-    return lines[:4096]
+    """Four transactions at a time; each is tuned, reads the newest versions of two keys, writes two, reads one of its own, and commits."""
+    lines, newest = [], [0] * 64
+    for first in range(1, 513, 4):
+        group = range(first, first + 4)
+        keys = {i: random.sample(range(64), 4) for i in group}
+        lines += ["s\t%d" % i for i in group] + ["k\t%d\t2\t1\t1" % i for i in group]
+        for place in (0, 1):
+            lines += ["r\t%d\t%d\t%d" % (i, keys[i][place], newest[keys[i][place]]) for i in group]
+        for place in (2, 3):
+            lines += ["w\t%d\t%d" % (i, keys[i][place]) for i in group]
+        lines += ["r\t%d\t%d\t%d" % (i, keys[i][2], i) for i in group] + ["c\t%d" % i for i in group]
+        for i in group:
+            newest[keys[i][2]] = newest[keys[i][3]] = i
+    return lines
 
 
-def median(command, path):
-    times = []
-    for _ in range(200):
-        with open(path) as f:
-            begin = time.perf_counter()
-            subprocess.run(command, stdin=f, stdout=subprocess.DEVNULL, check=True)
-            times.append(time.perf_counter() - begin)
-    return sorted(times)[len(times) // 2] * 1000
+HISTORIES = (("one transaction, 2,500 reads over 511 versions", one_reader()), ("511 open at once, four reads each", all_open()), ("4,096 lines of ordinary work", ordinary()), ("no lines", []))
 
-
-print("%s, %d cores; milliseconds, median of 200 runs with the start of the process" % (platform.machine(), os.cpu_count()))
-for name, lines in (("one transaction, 2,500 reads over 511 versions", one_reader()), ("511 open at once, four reads each", all_open()), ("4,096 lines of ordinary work", ordinary())):
-    with tempfile.NamedTemporaryFile("w", suffix=".history") as f:
-        f.write("".join(line + "\n" for line in lines))
-        f.flush()
-        a, b = median([judge], f.name), median(["wc"], f.name)
-    print("%-50s judge %.2f  wc %.2f  ratio %.1f" % (name, a, b, a / b))
+print("%s; milliseconds with the start of the process, the best of %d runs" % (beside.machine(), RUNS))
+for name, lines in HISTORIES:
+    text = "".join(line + "\n" for line in lines).encode()
+    (proved, reference, wc), (verdicts, others, _) = beside.best([beside.proved("judge"), beside.reference("judge"), ["wc"]], text, RUNS)
+    if not verdicts.split(b"\n")[-2].startswith(b"total ") or verdicts != others:
+        sys.exit("%s: not judged to its end, or the two judge differently" % name)
+    rates = (proved * 1000, len(lines) / proved, reference * 1000, len(lines) / reference, wc * 1000, proved / wc)
+    print("%-47s proved %5.2f, %8.0f lines a second; reference %6.2f, %8.0f lines a second; wc %5.2f, ratio %.1f" % ((name,) + rates))

@@ -1,31 +1,41 @@
 #!/usr/bin/env python3
-"""Plays a million steps of start, write, commit and read, the log full most of the time and then reopened, and prints the rate.
+"""Plays two sessions with the proved program and with the Rust reference, and prints the steps a second of each.
 
-    bench/session.py      (after ./zoribhat session has built the program once)
+    bench/session.py      (after ./zoribhat compare 0 0 has built both)
 """
-import os
-import platform
 import subprocess
-import tempfile
-import time
+import sys
 
-top = os.path.dirname(os.path.dirname(os.path.abspath(__file__)))
-steps = []
-while len(steps) < 1000000:
-    steps.append("open 0")
-    name = 1
-    for i in range(4096):
-        steps += ["start", "write %d %d %d" % (name, i % 64, i), "commit %d" % name]
-        name += 2
-    for i in range(60000):
-        steps += ["start", "read %d %d" % (name, i % 64), "read %d %d" % (name, (i * 7) % 64), "commit %d" % name]
-        name += 2
-steps = steps[:1000000]
-with tempfile.NamedTemporaryFile("w", suffix=".session") as f:
-    f.write("".join(s + "\n" for s in steps))
-    f.flush()
-    begin = time.perf_counter()
-    with open(f.name) as steps_in:
-        subprocess.run([os.path.join(top, "target/bin/session")], stdin=steps_in, stdout=subprocess.DEVNULL, check=True)
-    took = time.perf_counter() - begin
-print("%s, %d cores: 1,000,000 steps in %.2f s, %.0f steps a second" % (platform.processor() or platform.machine(), os.cpu_count(), took, 1000000 / took))
+import beside
+
+RUNS = 5
+
+
+def full_log():
+    """A million steps of start, write, commit and read, the log full most of the time and then reopened."""
+    steps = []
+    while len(steps) < 1000000:
+        steps.append("open 0")
+        name = 1
+        for i in range(4096):
+            steps += ["start", "write %d %d %d" % (name, i % 64, i), "commit %d" % name]
+            name += 2
+        for i in range(60000):
+            steps += ["start", "read %d %d" % (name, i % 64), "read %d %d" % (name, (i * 7) % 64), "commit %d" % name]
+            name += 2
+    return "".join(step + "\n" for step in steps[:1000000]).encode()
+
+
+def made_up():
+    """A thousand sessions of the comparison, all words and refusals among them, most with a short log."""
+    sessions = [subprocess.run(beside.reference("generate") + ["session", str(seed)], stdout=subprocess.PIPE, check=True).stdout for seed in range(1, 1001)]
+    return b"".join(sessions)
+
+
+print("%s; the best of %d runs" % (beside.machine(), RUNS))
+for name, text in (("log full most of the time", full_log()), ("1,000 made-up sessions", made_up())):
+    (proved, reference), (replies, others) = beside.best([beside.proved("session"), beside.reference("session")], text, RUNS)
+    if replies != others:
+        sys.exit("%s: the two reply differently" % name)
+    steps = text.count(b"\n")
+    print("%-30s %9d steps: proved %6.2f s, %7.0f a second; reference %6.2f s, %7.0f a second" % (name, steps, proved, steps / proved, reference, steps / reference))
