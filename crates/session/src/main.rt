@@ -1,6 +1,9 @@
 // Plays a session: steps from standard input, one a line, and one reply a line on standard output. It holds one master, opened at clock
 // 0, and one fresh copy. docs/SESSION.md has the language. No contract can say what a program reads or writes: the calls that a step makes
 // carry the promises, and this program only reads words and writes answers.
+ghost use Prim.Native.Nat.{_<_, _≤_};
+ghost use lib.ListN.{length};
+
 mod say;
 mod step;
 mod table;
@@ -25,22 +28,50 @@ const INPUT: usize = 4096;
 
 const OUTPUT: usize = 8192;
 
-// One byte more of the line; a newline plays it. A line that is too long is no step.
-fn feed(
-    b: u8,
-    line: &mut [u8],
+// How far the input is read, how many bytes of a line are kept, and whether they end it.
+struct Filled {
+    at: usize,
+    read: usize,
+    ended: bool,
+}
+
+// The bytes of the input from a place on, up to a newline, go behind those that are kept of the line.
+fn fill(input: &[u8], from: usize, line: &mut [u8], read: usize) -> Filled
+    ensures { λ r. ⌜ (from < length (now (input .entry)) → (from < r .at) × (r .at ≤ length (now (input .entry)))) ⌝ }
+{
+    let mut i = from;
+    let mut n = read;
+    while i < input.len() {
+        let b = input[i];
+        keep(line, n, b);
+        i += 1;
+        if b == b'\n' {
+            return Filled {
+                at: i,
+                read: n,
+                ended: true,
+            };
+        }
+        n = longer(n);
+    }
+    Filled {
+        at: i,
+        read: n,
+        ended: false,
+    }
+}
+
+// A line with n bytes before its newline. One that is too long is no step.
+fn play_line(
+    line: &[u8],
     keys: &mut [u8; limits::LOG],
     ordinals: &mut [u32; limits::LOG],
     stamps: &mut [u32; limits::LOG],
     values: &mut [i32; limits::LOG],
     out: &mut [u8],
     p: Table,
+    n: usize,
 ) -> Table {
-    let n = p.read;
-    keep(line, n, b);
-    if b != b'\n' {
-        return counted(p, longer(n));
-    }
     let q = roomy(out, p);
     if n < LINE {
         return counted(
@@ -98,8 +129,13 @@ fn feed_all(
     let mut q = p;
     let mut i = 0;
     while i < input.len() {
-        q = feed(input[i], line, keys, ordinals, stamps, values, out, q);
-        i += 1;
+        let f = fill(input, i, line, q.read);
+        i = f.at;
+        if f.ended {
+            q = play_line(line, keys, ordinals, stamps, values, out, q, f.read);
+        } else {
+            q = counted(q, f.read);
+        }
     }
     q
 }
