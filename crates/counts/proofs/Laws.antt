@@ -8,6 +8,8 @@ use mathlib.Core.List.{List, [], _∷_}
 use lib.Dec.{leb, ltb, leb·zero, leb·suc-suc}
 use borrow.Author.Tests.{ltb-true, ltb-false, leb-true, leb-false, lt-ltb, le-ltb, le-leb, lt-leb}
 use Rattle.lists.specs.Lists.{count, any}
+use Rattle.lists.proofs.Count.{count-none, count-step}
+use Rattle.lists.proofs.Every.{every}
 use Rattle.model.specs.Log.{Entry, ofKey, upTo, between, changedAfter, versions}
 use Rattle.counts.specs.Within.{within, bit}
 
@@ -16,20 +18,10 @@ unfolding bit
 bit-le true h e = omega arith
 bit-le false h e = omega arith
 
-module _ {A : Type 0} (p : A → Bool) where
-  -- an element more: its test is added
-  pub count-more : (x : A) (xs : List A) (n h : ℕ) → n ≡ count p xs → h ≡ bit (p x) → n + h ≡ count p (x ∷ xs)
-  unfolding count bit
-  count-more x xs n h e f = go (p x) f
-    where
-      go : (b : Bool) → h ≡ bit b → n + h ≡ cond b (suc (count p xs)) (count p xs)
-      go true f = omega arith
-      go false f = omega arith
-
-  count-none : ((x : A) → p x ≡ false) → (l : List A) → count p l ≡ 0
-  unfolding count
-  count-none h [] = refl
-  count-none h (x ∷ xs) = rw (h x) (count-none h xs)
+-- an element more: its test is added
+pub count-more : {A : Type 0} (p : A → Bool) (x : A) (xs : List A) (n h : ℕ) → n ≡ count p xs → h ≡ bit (p x) → n + h ≡ count p (x ∷ xs)
+unfolding bit
+count-more p x xs n h e f = omega (arith, count-step p x xs)
 
 -- "at or before t" has no lower end
 pub up-to : (log : List Entry) (x t : ℕ) → within log x 0 t ≡ upTo log x t
@@ -52,7 +44,7 @@ strictly log x after before h = ap (λ (p : Entry → Bool). count p log) (fun-e
 -- and of two that are not: nothing lies between
 pub nothing-between : (log : List Entry) (x after before : ℕ) → before ≤ after → 0 ≡ between log x after before
 unfolding between
-nothing-between log x after before h = sym (count-none _ (λ e. go (ofKey x e) (e .stamp) (ltb after (e .stamp)) refl) log)
+nothing-between log x after before h = sym (count-none _ (every log (λ e. go (ofKey x e) (e .stamp) (ltb after (e .stamp)) refl)))
   where
     go : (k : Bool) (s : ℕ) (b : Bool) → ltb after s ≡ b → (k && (ltb after s && ltb s before)) ≡ false
     go k s true e = rw (e, le-ltb s before (omega (arith, ltb-true after s e))) (and-false k)

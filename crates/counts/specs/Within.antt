@@ -1,6 +1,6 @@
 -- The count that the others come from: the versions of a key with a stamp from `low` to `high`, both ends counted.
 use Prim.Native.Nat.{ℕ}
-use mathlib.Core.Bool.{Bool, true, false, _&&_}
+use mathlib.Core.Bool.{Bool, cond, _&&_}
 use mathlib.Core.List.{List}
 use lib.Dec.{leb}
 use Rattle.lists.specs.Lists.{count}
@@ -11,5 +11,4 @@ within log x low high = count (λ (e : Entry). ofKey x e && (leb low (e .stamp) 
 
 -- what a test adds to a count
 unfoldable pub bit : Bool → ℕ
-bit true = 1
-bit false = 0
+bit b = cond b 1 0

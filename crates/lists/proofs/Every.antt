@@ -8,6 +8,10 @@ use lib.ListN.{length, getD, set, take}
 use Rattle.lists.specs.Lists.{find, any, Every, none, also}
 
 module _ {A : Type 0} where
+  pub every : {P : A → Type 0} (l : List A) → ((x : A) → P x) → Every P l
+  every [] f = none
+  every (x ∷ xs) f = also (f x) (every xs f)
+
   pub every-map : {P Q : A → Type 0} → ((x : A) → P x → Q x) → {l : List A} → Every P l → Every Q l
   every-map f none = none
   every-map f (also {x} h hs) = also (f x h) (every-map f hs)

@@ -10,6 +10,7 @@ use lib.Dec.{eqb}
 use lib.IntN.{pos}
 use lib.ListN.{length, getD, drop, take, length-drop, drop-of-length-le}
 use lib.Seq.{drop-cons}
+use Rattle.units.proofs.Batches.{batch-items}
 use Rattle.units.specs.declared.Item.{Item}
 use Rattle.lists.specs.Lists.{Every, none, also}
 use Rattle.decimal.specs.Read.{naturals}
@@ -19,7 +20,6 @@ use Rattle.message.specs.Read.{Reading, whole, bad, onNumber, onPiece, b
 use Rattle.message.specs.Write.{Puts}
 use Rattle.message.specs.declared.read.Form.{Form}
 use Rattle.message.specs.declared.read.Piece.{Piece}
-use Rattle.message.proofs.Batches.{batch-items}
 use Rattle.message.proofs.Fields.{byte-within, Tabbed, number-tabbed, tabbed-text, tabbed-at, Took, number-took}
 use Rattle.message.proofs.Items.{ItemAt, item-reads, item-back, TookPiece, piece-took, stops-items}
 use Rattle.message.proofs.Putting.{puts-front}

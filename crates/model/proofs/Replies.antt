@@ -4,10 +4,10 @@ use mathlib.Core.Path.{_≡_, subst, ap}
 use mathlib.Core.Bool.{not}
 use lib.Dec.{T, eqb, eqb-refl, T-not}
 use lib.IntN.{ℤ, pos}
+use Rattle.units.specs.Version.{startVersion}
 use Rattle.units.specs.declared.rule.Rule.{Rule}
 use Rattle.units.specs.declared.rule.Rule.the-variants.{BV}
 use Rattle.units.specs.declared.Version.{Version}
-use Rattle.model.specs.Log.{startVersion}
 use Rattle.model.specs.Call.{Reply, refused, started, version, own, done, apartBy, committed, aborted, made, madeBy}
 
 -- what a reply carries, whatever its kind; what it does not carry is 0
