@@ -10,11 +10,12 @@ use borrow.Author.Tests.{ltb-true, ltb-false, eqb-true, eqb-false}
 use lib.Dec.{ltb, eqb}
 use lib.ListN.{length, getD, length-set}
 use lib.Seq.{getD-set-same, getD-set-other, set-out}
+use Rattle.units.specs.Version.{startVersion}
 use Rattle.units.specs.declared.Item.{Item}
 use Rattle.units.specs.declared.Version.{Version}
 use Rattle.lists.specs.Lists.{Every, none, also}
 use Rattle.message.specs.Read.{Reading, whole, bad, readLine}
-use Rattle.copy.specs.Copy.{startVersion, held, versionOf, replaced, takeItem, takeItems, taken, takeLine}
+use Rattle.copy.specs.Copy.{held, versionOf, replaced, takeItem, takeItems, taken, takeLine}
 use Rattle.copy.specs.Arrivals.{Arrival, arrival, takeAll, takeLines, carried, arrivals, greatest, Came, here, later}
 use Rattle.copy.specs.declared.Copy.{Copy}
 use Rattle.copy.proofs.Steps.{item-outside}

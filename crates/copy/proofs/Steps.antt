@@ -8,6 +8,8 @@ use mathlib.Core.List.{List, [], _∷_, _++_, map}
 use lib.Dec.{ltb}
 use lib.ListN.{length, getD, set, take, drop, length-map, drop-of-length-le, List·getD-map}
 use lib.Seq.{drop-cons, set-out, take-suc, take-suc-set, take-all}
+use Rattle.units.specs.Version.{startVersion}
+use Rattle.units.proofs.Batches.{batch-items}
 use Rattle.units.specs.declared.Item.{Item}
 use Rattle.units.specs.declared.Ordinal.{Ordinal}
 use Rattle.units.specs.declared.Version.{Version}
@@ -16,9 +18,8 @@ use Rattle.message.specs.Line.{itemsOf, noItem}
 use Rattle.message.specs.Read.{Reading, whole, bad, readLine, messageOf}
 use Rattle.message.specs.declared.read.Form.{Form}
 use Rattle.message.specs.declared.read.Message.{Message}
-use Rattle.message.proofs.Batches.{batch-items}
 use Rattle.message.proofs.Exactly.{exactly}
-use Rattle.copy.specs.Copy.{startVersion, held, ordinalOf, ordinalsOf, versionOf, replaced, takeItem, takeItems, taken, takeLine}
+use Rattle.copy.specs.Copy.{held, ordinalOf, ordinalsOf, versionOf, replaced, takeItem, takeItems, taken, takeLine}
 use Rattle.copy.specs.declared.Copy.{Copy}
 use Rattle.copy.specs.declared.TakeAnswer.{TakeAnswer}
 use Rattle.copy.specs.declared.Taken.{Taken}

@@ -4,8 +4,8 @@ use Prim.Native.Nat.{ℕ}
 use mathlib.Core.Bool.{cond}
 use mathlib.Core.List.{List, [], _∷_, map}
 use lib.Dec.{ltb}
-use lib.IntN.{pos}
 use lib.ListN.{getD, set, replicate}
+use Rattle.units.specs.Version.{startVersion}
 use Rattle.units.specs.declared.Item.{Item}
 use Rattle.units.specs.declared.Ordinal.{Ordinal}
 use Rattle.units.specs.declared.Version.{Version}
@@ -15,10 +15,6 @@ use Rattle.copy.specs.declared.Copy.{Copy}
 use Rattle.copy.specs.declared.ReadAnswer.{ReadAnswer}
 use Rattle.copy.specs.declared.TakeAnswer.{TakeAnswer}
 use Rattle.copy.specs.declared.Taken.{Taken}
-
--- "0 for the start version (value 0, stamp 0)"
-abbrev pub startVersion : Version
-startVersion = record { ordinal = record { 0 = 0 }; stamp = record { 0 = 0 }; value = pos 0 }
 
 abbrev pub freshCopy : Copy
 freshCopy = record { versions = replicate 64 startVersion }

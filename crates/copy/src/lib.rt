@@ -40,13 +40,8 @@ impl Copy {
     pub fn fresh() -> Copy
         ensures { λ r. ⌜ r ≡ freshCopy ⌝ }
     {
-        let start = Version {
-            ordinal: Ordinal(0),
-            stamp: Stamp(0),
-            value: 0,
-        };
         Copy {
-            versions: [start; limits::KEYS],
+            versions: [Version::start(); limits::KEYS],
         }
     }
 

@@ -10,8 +10,9 @@ use Rattle.lists.specs.Lists.{Every, also}
 use Rattle.lists.specs.Members.{In, here, below}
 use Rattle.lists.proofs.Every.{every-map, every-both}
 use Rattle.lists.proofs.Members.{every-in}
+use Rattle.units.specs.Version.{startVersion}
 use Rattle.units.specs.declared.Version.{Version}
-use Rattle.model.specs.Log.{Entry, versionOf, startVersion, versions, upTo, newest}
+use Rattle.model.specs.Log.{Entry, versionOf, versions, upTo, newest}
 use Rattle.model.specs.Reached.{Chain, NewestOf, start, last}
 use Rattle.model.proofs.History.{chain-stamps, ordinal-counts, ordinals-rise, same-ordinal, newest-counts, newest-is, ordinal-range, upTo-mono, upTo-now}
 use Rattle.copy.specs.Copy as copy

@@ -7,13 +7,14 @@ use mathlib.Core.Bool.{Bool, true, false, true≢false}
 use mathlib.Core.List.{List}
 use lib.ListN.{List·getD-map}
 use borrow.Author.Tests.{ltb-true, lt-ltb, le-ltb}
+use Rattle.units.specs.Version.{startVersion}
 use Rattle.units.specs.declared.Ordinal.{Ordinal}
 use Rattle.units.specs.declared.Version.{Version}
 use Rattle.model.specs.Log.{Entry, newest}
 use Rattle.comparison.specs.Comparison.{heldOrdinal, newestOrdinal, isAhead, isBehind, wordOf, howMany, lowest, compared}
 use Rattle.comparison.specs.declared.Compared.the-variants.{Behind}
 use Rattle.comparison.proofs.Words.{digit, no-key, word-digit, word-ones, word-lowest, lowest-is}
-use Rattle.copy.specs.Copy.{startVersion, held, ordinalOf, ordinalsOf}
+use Rattle.copy.specs.Copy.{held, ordinalOf, ordinalsOf}
 use Rattle.copy.specs.declared.Copy.{Copy}
 use Rattle.delivery.specs.Named.{Named, Lacks, Lowest, first, nowhere, NamesBehind, names}
 

@@ -6,8 +6,9 @@ use mathlib.Core.Logic.{_≢_}
 use mathlib.Core.List.{List}
 use Rattle.lists.specs.Lists.{Every}
 use Rattle.lists.specs.Members.{In}
+use Rattle.units.specs.Version.{startVersion}
 use Rattle.units.specs.declared.Version.{Version}
-use Rattle.model.specs.Log.{Entry, versionOf, startVersion}
+use Rattle.model.specs.Log.{Entry, versionOf}
 use Rattle.versions.specs.Batch.{itemOf}
 use Rattle.copy.specs.Arrivals.{Arrival, arrival}
 

@@ -14,6 +14,7 @@ use units::Bounds;
 use units::Refusal;
 use units::Stamp;
 use units::Triple;
+use units::at_most;
 use units::limits;
 
 // The first `length` places of the lent columns are the log.
@@ -208,10 +209,4 @@ fn is_free(t: Transaction) -> bool
     ensures { λ r. ⌜ r ≡ not (t .live) ⌝ }
 {
     !t.live
-}
-
-fn at_most(n: usize, most: usize) -> usize
-    ensures { λ r. ⌜ r ≡ min n most ⌝ }
-{
-    if n < most { n } else { most }
 }

@@ -9,8 +9,7 @@ use records::Record;
 use units::Bounds;
 use units::limits;
 
-// Transaction numbers are 1 to 4,294,967,295.
-const LAST_NAME: u64 = 4294967295;
+const LAST_NAME: u64 = limits::LAST_NAME as u64;
 
 const LAST_KEY: u64 = limits::LAST_KEY as u64;
 

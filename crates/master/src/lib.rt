@@ -167,10 +167,10 @@ pub fn distance(
     }
     let t = master.at(i);
     let p = place as usize;
-    if rules::reads_in(t) <= p {
+    if t.reads_in() <= p {
         return DistanceAnswer::Refused(Refusal::NoSuchBoundOrPlace);
     }
-    let d = rules::distance_of(keys, stamps, master.length, t.name, rules::read_at(t, p));
+    let d = rules::distance_of(keys, stamps, master.length, t.name, t.read_at(p));
     DistanceAnswer::Distance(d)
 }
 
@@ -198,7 +198,7 @@ pub fn commit(
     match rules::certify(keys, stamps, master.length, t) {
         Certified::Broken(rule) => aborted(master, i, t, rule),
         Certified::Whole => {
-            if limits::LOG - in_use(master.length) < rules::writes_in(t) {
+            if limits::LOG - in_use(master.length) < t.writes_in() {
                 return deny(master, Refusal::LogFull);
             }
             let clock = master.clock;

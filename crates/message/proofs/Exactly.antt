@@ -9,6 +9,7 @@ use borrow.Author.Tests.{eq-eqb, ne-eqb, eqb-true}
 use lib.Dec.{eqb}
 use lib.IntN.{pos}
 use lib.ListN.{length, getD, drop, take, length-drop, drop-of-length-le}
+use Rattle.units.proofs.Batches.{batch-items}
 use Rattle.units.specs.declared.Item.{Item}
 use Rattle.lists.specs.Lists.{Every, none, also}
 use Rattle.decimal.specs.Text.{field, joined}
@@ -22,7 +23,6 @@ use Rattle.message.specs.Line.{itemText, itemsText, lineOf, InRanges, di
 use Rattle.message.specs.Read.{Reading, whole, bad, onPiece, itemAt, endsAt, closed, itemsAt, readLine, messageOf}
 use Rattle.message.specs.declared.read.Form.{Form}
 use Rattle.message.specs.declared.read.Piece.{Piece}
-use Rattle.message.proofs.Batches.{batch-items}
 use Rattle.message.proofs.Items.{ItemAt, item-reads, item-back, piece-took, stops-items}
 
 no-reading : {A : Type 0} (stamp : ℕ) (items : List Item) → bad ≡ whole stamp items → A

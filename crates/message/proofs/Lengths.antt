@@ -1,17 +1,19 @@
 -- How long a message is. Document 01: "A message is at most 333 bytes".
-use Prim.Native.Nat.{ℕ, suc, _+_, _*_, _≤_, _<_}
+use Prim.Native.Nat.{ℕ, zero, suc, _+_, _*_, _≤_, _<_}
 use native.Mathlib.Omega.{arith}
-use mathlib.Core.Path.{_≡_, _∙_}
+use mathlib.Core.Path.{_≡_, refl, _∙_}
 use mathlib.Core.List.{List, [], _∷_, _++_}
-use lib.IntN.{pos}
+use lib.IntN.{pos, negsuc}
 use lib.Signed.{mag}
 use lib.ListN.{length, length-append}
 use Rattle.units.specs.declared.Item.{Item}
-use Rattle.lists.specs.Lists.{Every, none, also}
-use Rattle.decimal.specs.Text.{field, joined}
+use Rattle.lists.specs.Lists.{any, Every, none, also}
+use Rattle.decimal.specs.Read.{naturalAt, signedAt, asNatural, asSigned, fieldAt, digits, more, unsigned, negative, naturalBehindTab, signedBehindTab, onNumber}
+use Rattle.decimal.specs.Text.{field, joined, decimal, spelt, isDigit}
 use Rattle.decimal.proofs.Digits.{decimal-length, decimal-32, plain-32}
 use Rattle.decimal.proofs.Values.{value-small}
-use Rattle.message.specs.Line.{itemText, itemsText, lineOf, InRanges, InForm}
+use Rattle.message.specs.Line.{itemText, itemsText, lineOf, distinct, InRanges, InForm, longest}
+use Rattle.message.specs.Read.{whole, readLine, itemsAt, itemAt, onValue, onPiece, endsAt, closed}
 
 pub item-length : (i : Item) → length (itemText i) ≡ length (field (pos (i .key))) + length (field (pos (i .ordinal .0))) + length (field (i .value))
 unfolding itemText
@@ -39,5 +41,14 @@ unfolding lineOf
 line-length stamp items = omega (arith, length-append (field (pos stamp) ++ itemsText items) (10 ∷ []), length-append (field (pos stamp)) (itemsText items))
 
 -- a message of the form
-pub line-of-form : (stamp : ℕ) (items : List Item) → InForm stamp items → length (lineOf stamp items) ≤ 333
+pub line-of-form : (stamp : ℕ) (items : List Item) → InForm stamp items → length (lineOf stamp items) ≤ longest
 line-of-form stamp items f = omega (arith, line-length stamp items, decimal-32 stamp (omega (arith, f .late)), items-of-form (f .ranges), f .few)
+
+-- and one that is as long: the last stamp, sixteen keys of two digits, each with the last ordinal and the lowest value
+pub fullest : ℕ → List Item
+fullest zero = []
+fullest (suc n) = record { key = 48 + n; ordinal = record { 0 = 4096 }; value = negsuc 2147483647 } ∷ fullest n
+
+pub longest-reached : (length (lineOf 4294967295 (fullest 16)) ≡ longest) × (readLine (lineOf 4294967295 (fullest 16)) ≡ whole 4294967295 (fullest 16))
+unfolding fullest readLine itemsAt itemAt naturalBehindTab signedBehindTab onNumber onValue onPiece endsAt closed distinct any lineOf joined itemText naturalAt signedAt asNatural asSigned fieldAt digits more unsigned negative decimal spelt isDigit
+longest-reached = (refl, refl)

@@ -11,8 +11,10 @@ use lib.ListN.{length, getD, drop, drop-of-length-le, length-append}
 use lib.Seq.{drop-cons}
 use mir.Syntax.{w32}
 use mir.Val.{SFits}
+use Rattle.units.specs.Batch.{added}
 use Rattle.units.specs.declared.Item.{Item}
 use Rattle.units.specs.declared.Batch.{Batch}
+use Rattle.units.proofs.Batches.{batch-items, batch-added}
 use Rattle.lists.specs.Lists.{any}
 use Rattle.decimal.specs.Read.{naturalBehindTab, signedBehindTab, onNumber}
 use Rattle.decimal.specs.declared.read.Natural.{Natural}
@@ -20,10 +22,9 @@ use Rattle.decimal.specs.declared.read.Signed.{Signed}
 use Rattle.decimal.proofs.Values.{value-small}
 use Rattle.decimal.proofs.Tabs.{signed-tabbed}
 use Rattle.message.specs.Line.{named, distinct, noItem, batchOf}
-use Rattle.message.specs.Read.{Reading, whole, bad, onValue, onPiece, itemAt, endsAt, closed, itemsAt, readLine, message, noMessage, messageOf, closedMessage, pushed}
+use Rattle.message.specs.Read.{Reading, whole, bad, onValue, onPiece, itemAt, endsAt, closed, itemsAt, readLine, message, noMessage, messageOf, closedMessage}
 use Rattle.message.specs.declared.read.Message.{Message}
 use Rattle.message.specs.declared.read.Piece.{Piece}
-use Rattle.message.proofs.Batches.{batch-items, batch-pushed}
 
 -- ---- a version
 
@@ -98,9 +99,9 @@ module _ (stamp : ℕ) (s : List ℕ) (from : ℕ) where
           let x : bad ≡ itemsAt stamp (suc (16 - (n + 1))) s at (f .seen) = rw (← q, b) in
           e ∙ ap messageOf (x ∙ ap (λ (k : ℕ). itemsAt stamp k s at (f .seen)) fuel ∙ f .left)
 
-      module _ {i : Item} {e : ℕ} (b : p ≡ Piece.At i e) {more : Batch} (w : more ≡ pushed batch n i) where
+      module _ {i : Item} {e : ℕ} (b : p ≡ Piece.At i e) {more : Batch} (w : more ≡ added batch i) where
         made-now : more ≡ batchOf (f .seen ++ (i ∷ []))
-        made-now = w ∙ ap (λ (x : Batch). pushed x n i) (f .made) ∙ ap (λ (k : ℕ). pushed (batchOf (f .seen)) k i) (sym (f .many)) ∙ batch-pushed (f .seen) i
+        made-now = w ∙ ap (λ (x : Batch). added x i) (f .made) ∙ batch-added (f .seen) i (omega (arith, f .many))
 
         long : length (f .seen ++ (i ∷ [])) ≡ n + 1
         long = length-append (f .seen) (i ∷ []) ∙ ap (λ (k : ℕ). k + 1) (f .many)

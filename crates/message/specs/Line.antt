@@ -6,10 +6,10 @@ use mathlib.Core.Bool.{Bool, true, not, _&&_}
 use mathlib.Core.List.{List, [], _∷_, _++_}
 use lib.Dec.{eqb}
 use lib.IntN.{pos}
-use lib.ListN.{length, take, replicate}
-use lib.Seq.{sets}
+use lib.ListN.{length}
+pub use Rattle.units.specs.Batch.{itemsOf, noItem}
+unfoldable pub use Rattle.units.specs.Batch.{batchOf}
 use Rattle.units.specs.declared.Item.{Item}
-use Rattle.units.specs.declared.Batch.{Batch}
 use Rattle.lists.specs.Lists.{any, Every}
 use Rattle.decimal.specs.Text.{field, joined}
 use Rattle.decimal.specs.Read.{InRange, values}
@@ -50,14 +50,6 @@ pub record InForm (stamp : ℕ) (items : List Item) : Type 0 where
   pub ranges : Every InRanges items
   pub apart : distinct items ≡ true
 
--- ---- the versions of a batch
-
-abbrev pub itemsOf : Batch → List Item
-itemsOf b = take (b .count) (b .items)
-
-abbrev pub noItem : Item
-noItem = record { key = 0; ordinal = record { 0 = 0 }; value = pos 0 }
-
--- the batch of at most 16 versions; the places behind them are empty
-unfoldable pub batchOf : List Item → Batch
-batchOf items = record { items = sets (replicate 16 noItem) 0 items; count = length items }
+-- "A message is at most 333 bytes"
+abbrev pub longest : ℕ
+longest = 333

@@ -5,7 +5,7 @@ use mathlib.Core.Bool.{Bool, cond, _&&_}
 use mathlib.Core.List.{List, [], _∷_, _++_}
 use lib.Dec.{eqb}
 use lib.IntN.{ℤ}
-use lib.ListN.{length, getD, set}
+use lib.ListN.{length, getD}
 use Rattle.units.specs.declared.Item.{Item}
 use Rattle.units.specs.declared.Batch.{Batch}
 use Rattle.decimal.specs.Read.{naturalBehindTab, signedBehindTab, onNumber}
@@ -72,6 +72,3 @@ messageOf bad = noMessage
 
 unfoldable pub closedMessage : ℕ → Batch → Message
 closedMessage stamp b = cond (distinct (itemsOf b)) (message stamp b) noMessage
-
-abbrev pub pushed : Batch → ℕ → Item → Batch
-pushed b n i = record { items = set (b .items) n i; count = n + 1 }

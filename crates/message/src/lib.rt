@@ -2,8 +2,9 @@
 ghost use Prim.Native.Nat.{_≤_};
 ghost use mathlib.Core.Path.{_≡_};
 ghost use lib.ListN.{length};
-ghost use Rattle.message.specs.Line.{itemsOf};
+ghost use Rattle.message.specs.Line.{itemsOf, longest};
 use units::Batch;
+use units::at_most;
 use units::limits;
 
 mod read;
@@ -21,10 +22,12 @@ const LETTER: u8 = b'p';
 pub fn size(batch: Batch) -> usize
     ensures { λ r. ⌜ (r ≡ length (itemsOf batch)) × ((r ≤ batch .count) × (r ≤ 16)) ⌝ }
 {
-    let n = batch.count;
-    if n < limits::WRITES {
-        n
-    } else {
-        limits::WRITES
-    }
+    at_most(batch.count, limits::WRITES)
+}
+
+// Room for every message: "A message is at most 333 bytes".
+pub fn longest() -> usize
+    ensures { λ r. ⌜ r ≡ longest ⌝ }
+{
+    limits::MESSAGE
 }

@@ -5,7 +5,7 @@ ghost use mathlib.Core.List.{[]};
 ghost use lib.ListN.{drop};
 ghost use Rattle.lists.specs.Lists.{any};
 ghost use Rattle.message.specs.Line.{named, distinct, itemsOf, batchOf};
-ghost use Rattle.message.specs.Read.{itemAt, endsAt, itemsAt, readLine, messageOf, noMessage, closedMessage, pushed};
+ghost use Rattle.message.specs.Read.{itemAt, endsAt, itemsAt, readLine, messageOf, noMessage, closedMessage};
 use crate::LETTER;
 use crate::size;
 use decimal::NEWLINE;
@@ -54,14 +54,14 @@ pub fn read_message(line: &[u8]) -> Message
 fn items_from(line: &[u8], stamp: Stamp, from: usize) -> Message
     ensures { λ r. ⌜ r ≡ messageOf (itemsAt (stamp .0) 16 (now (line .entry)) from []) ⌝ }
 {
-    let mut batch = no_items();
+    let mut batch = Batch::empty();
     let mut at = from;
     let mut n = 0;
     while n < limits::WRITES {
         let Piece::At(item, e) = item_at(line, at) else {
             return no_message();
         };
-        batch = with_item(batch, n, item);
+        batch = batch.add(item);
         if ends(line, e) {
             return closed(stamp, batch);
         }
@@ -147,35 +147,12 @@ fn named_from(batch: Batch, from: usize, key: u8) -> bool
     false
 }
 
-fn with_item(mut batch: Batch, n: usize, item: Item) -> Batch
-    requires { ⌜ n < 16 ⌝ }
-    ensures { λ r. ⌜ r ≡ pushed batch n item ⌝ }
-{
-    batch.items[n] = item;
-    batch.count = n + 1;
-    batch
-}
-
 fn no_message() -> Message
     ensures { λ r. ⌜ r ≡ noMessage ⌝ }
 {
     Message {
         form: Form::Bad,
         stamp: Stamp(0),
-        batch: no_items(),
-    }
-}
-
-fn no_items() -> Batch
-    ensures { λ r. ⌜ r ≡ batchOf [] ⌝ }
-{
-    let item = Item {
-        key: 0,
-        ordinal: Ordinal(0),
-        value: 0,
-    };
-    Batch {
-        items: [item; limits::WRITES],
-        count: 0,
+        batch: Batch::empty(),
     }
 }

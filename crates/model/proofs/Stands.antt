@@ -8,11 +8,12 @@ use lib.Dec.{eqb}
 use borrow.Author.Tests.{eqb-true}
 use Rattle.lists.specs.Members.{In, here, below}
 use Rattle.lists.proofs.Members.{every-in}
+use Rattle.units.specs.Version.{startVersion}
 use Rattle.units.specs.declared.Version.{Version}
 use Rattle.units.specs.declared.Found.the-variants.{At}
 use Rattle.transaction.specs.declared.Mark.{Mark}
 use Rattle.transaction.specs.declared.Write.{Write}
-use Rattle.model.specs.Log.{Entry, versionOf, startVersion, upTo, next, newest, logged, lookUp, installed}
+use Rattle.model.specs.Log.{Entry, versionOf, upTo, next, newest, logged, lookUp, installed}
 use Rattle.model.specs.Step.{marked}
 use Rattle.model.specs.Reached.{Chain, Stands, loaded, stored}
 use Rattle.model.proofs.History.{chain-stamps, ordinal-counts, load-counts}

@@ -3,8 +3,9 @@ use Prim.Native.Nat.{ℕ, suc, _+_}
 use mathlib.Core.Bool.{Bool, cond, _&&_}
 use mathlib.Core.List.{List, [], _∷_, _++_}
 use lib.Dec.{eqb, leb, ltb}
-use lib.IntN.{ℤ, pos}
+use lib.IntN.{ℤ}
 use Rattle.lists.specs.Lists.{count, any}
+use Rattle.units.specs.Version.{startVersion}
 use Rattle.units.specs.declared.Version.{Version}
 use Rattle.units.specs.declared.Found.{Found}
 use Rattle.units.specs.declared.Found.the-variants.{At, Absent}
@@ -19,10 +20,6 @@ pub record Entry : Type 0 where
 
 abbrev pub versionOf : Entry → Version
 versionOf e = record { ordinal = record { 0 = e .ordinal }; stamp = record { 0 = e .stamp }; value = e .value }
-
--- "0 for the start version (value 0, stamp 0)"
-abbrev pub startVersion : Version
-startVersion = record { ordinal = record { 0 = 0 }; stamp = record { 0 = 0 }; value = pos 0 }
 
 abbrev pub ofKey : ℕ → Entry → Bool
 ofKey x e = eqb (e .key) x

@@ -8,12 +8,13 @@ use mathlib.Core.Logic.{_≢_}
 use lib.ListN.{length, getD}
 use Rattle.lists.specs.Lists.{Every}
 use Rattle.lists.specs.Members.{In, Distinct}
+use Rattle.units.specs.Version.{startVersion}
 use Rattle.units.specs.declared.Version.{Version}
 use Rattle.transaction.specs.declared.Mark.{Mark}
 use Rattle.transaction.specs.declared.Write.{Write}
 use Rattle.transaction.specs.declared.Transaction.{Transaction}
 use Rattle.transaction.specs.Transaction.{readsOf, writesOf}
-use Rattle.model.specs.Log.{Entry, versionOf, startVersion, versions, next, installed, madeAt}
+use Rattle.model.specs.Log.{Entry, versionOf, versions, next, installed, madeAt}
 use Rattle.model.specs.State.{State, noTransaction}
 
 abbrev pub keysOf : List Write → List ℕ

@@ -12,8 +12,9 @@ use Rattle.units.specs.declared.refusal.Refusal.{Refusal}
 use Rattle.units.specs.declared.refusal.Refusal.the-variants.{NothingWritten}
 use Rattle.units.proofs.Numbers.{number-inj, number-pos}
 use Rattle.model.specs.Log.{Entry, madeAt}
-use Rattle.model.specs.Call.{Message, Reply, refused, started, version, own, done, apartBy, committed, aborted, made, madeBy}
+use Rattle.model.specs.Call.{Message, Reply, refused, made}
 use Rattle.model.specs.Step.{Step, order, step}
+use Rattle.model.proofs.Replies.{told}
 use Rattle.desk.specs.declared.Master.{Master}
 use Rattle.desk.specs.Desk.{stateOf, stepped}
 use Rattle.master.specs.Master.{madeReply}
@@ -28,23 +29,13 @@ use Rattle.message.specs.declared.write.Sent.the-variants.{Refused}
 use Rattle.delivery.specs.Sent.{messageAt}
 use Rattle.post.specs.Post.{posted, roomAfter}
 
--- the number of a refusal, 0 for any other reply
 abbrev number : Reply → ℕ
-number (refused n) = n
-number (started n) = 0
-number (version v) = 0
-number (own v) = 0
-number done = 0
-number (apartBy d) = 0
-number (committed s) = 0
-number (aborted r) = 0
-number (made es) = 0
-number (madeBy s) = 0
+number r = told r .number
 
 module _ (m : Master) (log : List Entry) (st : ℕ) (a : MadeAnswer) (e : stepped (madeReply a (madeAt log st)) m log ≡ step (stateOf m log) (Message st)) where
-  told : number (madeReply a (madeAt log st)) ≡ cond (eqb (length (madeAt log st)) 0) 18 0
+  said : number (madeReply a (madeAt log st)) ≡ cond (eqb (length (madeAt log st)) 0) 18 0
   unfolding step order
-  told = ap (λ (s : Step). number (s .reply)) e ∙ go (eqb (length (madeAt log st)) 0)
+  said = ap (λ (s : Step). number (s .reply)) e ∙ go (eqb (length (madeAt log st)) 0)
     where
       go : (t : Bool) → number (cond t (record { reply = refused 18; state = stateOf m log }) (stepped (made (take 16 (madeAt log st))) m log) .reply) ≡ cond t 18 0
       go true = refl
@@ -52,7 +43,7 @@ module _ (m : Master) (log : List Entry) (st : ℕ) (a : MadeAnswer) (e : steppe
 
   pub refused-sends : (f : Refusal) (room : List ℕ) → a ≡ MadeAnswer.Refused f → (Refused f ≡ posted log st room) × (room ≡ roomAfter log st room)
   unfolding posted roomAfter
-  refused-sends f room h = go (eqb (length (madeAt log st)) 0) (sym (ap (λ (x : MadeAnswer). number (madeReply x (madeAt log st))) h) ∙ told)
+  refused-sends f room h = go (eqb (length (madeAt log st)) 0) (sym (ap (λ (x : MadeAnswer). number (madeReply x (madeAt log st))) h) ∙ said)
     where
       go : (t : Bool) → numberOf f ≡ cond t 18 0
           → (Refused f ≡ cond t (Refused NothingWritten) (sentAs room (messageAt log st))) × (room ≡ cond t room (put room 0 (messageAt log st)))
@@ -62,7 +53,7 @@ module _ (m : Master) (log : List Entry) (st : ℕ) (a : MadeAnswer) (e : steppe
   pub made-sends : (b : Batch) (room after : List ℕ) (r : Sent) → a ≡ MadeAnswer.Made → b ≡ batchOf (madeAt log st) → r ≡ sentAs room (lineOf st (itemsOf b))
       → after ≡ put room 0 (lineOf st (itemsOf b)) → (r ≡ posted log st room) × (after ≡ roomAfter log st room)
   unfolding posted roomAfter messageAt
-  made-sends b room after r h g w x = go (eqb (length (madeAt log st)) 0) (sym (ap (λ (y : MadeAnswer). number (madeReply y (madeAt log st))) h) ∙ told)
+  made-sends b room after r h g w x = go (eqb (length (madeAt log st)) 0) (sym (ap (λ (y : MadeAnswer). number (madeReply y (madeAt log st))) h) ∙ said)
     where
       line : lineOf st (itemsOf b) ≡ messageAt log st
       line = ap (lineOf st) (ap itemsOf g ∙ items-of-batch (madeAt log st))

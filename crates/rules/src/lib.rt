@@ -1,14 +1,14 @@
 // The rules of RVSI for a transaction, against the log's lent columns: BV, FV, SV, WC in document 01's order, the first that is
 // broken and its place. A count of reads or writes past 16 counts as 16.
-ghost use Prim.Native.Nat.{ℕ, min, max};
+ghost use Prim.Native.Nat.{ℕ, max};
 ghost use mathlib.Core.Path.{_≡_};
 ghost use mathlib.Core.Bool.{not};
 ghost use mathlib.Core.List.{List};
 ghost use lib.IntN.{ℤ, pos, negℤ, _-ℤ_};
-ghost use lib.ListN.{length, getD};
+ghost use lib.ListN.{getD};
 ghost use lib.Signed.{ltZ, leZ};
 ghost use Rattle.lists.specs.Lists.{find};
-ghost use Rattle.transaction.specs.Transaction.{readsOf, writesOf, noMark, noWrite};
+ghost use Rattle.transaction.specs.Transaction.{readsOf, writesOf, noWrite};
 ghost use Rattle.model.specs.Rules.{distance, overtaken, certified};
 ghost use Rattle.columns.specs.Columns.{logOf, used};
 ghost use Rattle.rules.specs.Tests.{fails, latest};
@@ -18,7 +18,6 @@ use counts::count_up_to;
 use transaction::Mark;
 use transaction::Transaction;
 use units::Certified;
-use units::Ordinal;
 use units::Rule;
 use units::Stamp;
 use units::limits;
@@ -56,7 +55,7 @@ pub fn certify(
 ) -> Certified
     ensures { λ r. ⌜ ((o : List ℕ) (v : List ℤ) → r ≡ certified (logOf (now (keys .entry)) o (now (stamps .entry)) v (used length)) t) ⌝ }
 {
-    let reads = reads_in(t);
+    let reads = t.reads_in();
     let stale = first(Test::Stale, keys, stamps, length, t);
     if stale < reads {
         return Certified::Broken(Rule::BV(stale));
@@ -67,49 +66,21 @@ pub fn certify(
     }
     let x = first(Test::Torn(latest(t)), keys, stamps, length, t);
     if x < reads {
-        let y = first(Test::Apart(read_at(t, x)), keys, stamps, length, t);
+        let y = first(Test::Apart(t.read_at(x)), keys, stamps, length, t);
         return Certified::Broken(Rule::SV(x, y));
     }
     let overtaken = first_overtaken(keys, stamps, length, t);
-    if overtaken < writes_in(t) {
+    if overtaken < t.writes_in() {
         return Certified::Broken(Rule::WC(overtaken));
     }
     Certified::Whole
-}
-
-// How many reads are recorded.
-pub fn reads_in(t: Transaction) -> usize
-    ensures { λ r. ⌜ r ≡ length (readsOf t) ⌝ }
-{
-    at_most(t.recorded, limits::READS)
-}
-
-// The read at a place; the read of nothing where none is recorded there.
-pub fn read_at(t: Transaction, i: usize) -> Mark
-    ensures { λ r. ⌜ r ≡ getD (readsOf t) i noMark ⌝ }
-{
-    if i < reads_in(t) {
-        return t.reads[i];
-    }
-    Mark {
-        key: 0,
-        ordinal: Ordinal(0),
-        stamp: Stamp(0),
-    }
-}
-
-// How many keys are written.
-pub fn writes_in(t: Transaction) -> usize
-    ensures { λ r. ⌜ r ≡ length (writesOf t) ⌝ }
-{
-    at_most(t.written, limits::WRITES)
 }
 
 // The written key at a place, or 0.
 fn key_at(t: Transaction, i: usize) -> u8
     ensures { λ r. ⌜ r ≡ getD (writesOf t) i noWrite .key ⌝ }
 {
-    if i < writes_in(t) {
+    if i < t.writes_in() {
         return t.writes[i].key;
     }
     0
@@ -125,10 +96,10 @@ fn first(
 ) -> usize
     ensures { λ r. ⌜ ((o : List ℕ) (v : List ℤ) → r ≡ find (fails test (logOf (now (keys .entry)) o (now (stamps .entry)) v (used length)) t) (readsOf t)) ⌝ }
 {
-    let end = reads_in(t);
+    let end = t.reads_in();
     let mut i = 0;
     while i < end {
-        if fails(test, keys, stamps, length, t, read_at(t, i)) {
+        if fails(test, keys, stamps, length, t, t.read_at(i)) {
             return i;
         }
         i += 1;
@@ -145,7 +116,7 @@ fn first_overtaken(
 ) -> usize
     ensures { λ r. ⌜ ((o : List ℕ) (v : List ℤ) → r ≡ find (overtaken (logOf (now (keys .entry)) o (now (stamps .entry)) v (used length)) t) (writesOf t)) ⌝ }
 {
-    let end = writes_in(t);
+    let end = t.writes_in();
     let mut i = 0;
     while i < end {
         if changed_after(keys, stamps, length, key_at(t, i), t.name) {
@@ -191,11 +162,11 @@ fn fails(
 fn latest(t: Transaction) -> Stamp
     ensures { λ r. ⌜ r .0 ≡ latest (readsOf t) ⌝ }
 {
-    let end = reads_in(t);
+    let end = t.reads_in();
     let mut last: u32 = 0;
     let mut i = 0;
     while i < end {
-        let s = read_at(t, i).stamp;
+        let s = t.read_at(i).stamp;
         last = later(last, s.0);
         i += 1;
     }
@@ -233,10 +204,4 @@ fn later(a: u32, b: u32) -> u32
     ensures { λ r. ⌜ r ≡ max a b ⌝ }
 {
     if a < b { b } else { a }
-}
-
-fn at_most(n: usize, most: usize) -> usize
-    ensures { λ r. ⌜ r ≡ min n most ⌝ }
-{
-    if n < most { n } else { most }
 }

@@ -1,11 +1,12 @@
 // The transaction as a value: tuned, recorded and written, it is handed back.
 ghost use mathlib.Core.Path.{_≡_};
-ghost use Prim.Native.Nat.{min, max};
-ghost use lib.ListN.{getD};
-ghost use Rattle.transaction.specs.Transaction.{fresh, tuned, ended, recorded, written, wroteAt, pendingOf, noMark};
+ghost use Prim.Native.Nat.{max};
+ghost use lib.ListN.{length, getD};
+ghost use Rattle.transaction.specs.Transaction.{fresh, tuned, ended, recorded, written, wroteAt, pendingOf, readsOf, writesOf, noMark};
 use units::Bounds;
 use units::Ordinal;
 use units::Stamp;
+use units::at_most;
 use units::limits;
 
 // A recorded read: the version of a key that was read, by its ordinal and its stamp.
@@ -87,11 +88,39 @@ impl Transaction {
         self
     }
 
+    // How many reads are recorded.
+    pub fn reads_in(self) -> usize
+        ensures { λ r. ⌜ r ≡ length (readsOf self) ⌝ }
+    {
+        at_most(self.recorded, limits::READS)
+    }
+
+    // The read at a place; the read of nothing where none is recorded there.
+    pub fn read_at(self, i: usize) -> Mark
+        ensures { λ r. ⌜ r ≡ getD (readsOf self) i noMark ⌝ }
+    {
+        if i < self.reads_in() {
+            return self.reads[i];
+        }
+        Mark {
+            key: 0,
+            ordinal: Ordinal(0),
+            stamp: Stamp(0),
+        }
+    }
+
+    // How many keys are written.
+    pub fn writes_in(self) -> usize
+        ensures { λ r. ⌜ r ≡ length (writesOf self) ⌝ }
+    {
+        at_most(self.written, limits::WRITES)
+    }
+
     // The place of a key among those written, or how many there are.
     pub fn wrote_at(self, key: u8) -> usize
         ensures { λ r. ⌜ r ≡ wroteAt self key ⌝ }
     {
-        let end = at_most(self.written, limits::WRITES);
+        let end = self.writes_in();
         let mut i = 0;
         while i < end {
             if self.writes[i].key == key {
@@ -119,18 +148,12 @@ impl Transaction {
         ensures { λ r. ⌜ r ≡ pendingOf self key ⌝ }
     {
         let i = self.wrote_at(key);
-        if i < at_most(self.written, limits::WRITES) {
+        if i < self.writes_in() {
             let w = self.writes[i];
             return Pending::Value(w.value);
         }
         Pending::Nothing
     }
-}
-
-fn at_most(n: usize, most: usize) -> usize
-    ensures { λ r. ⌜ r ≡ min n most ⌝ }
-{
-    if n < most { n } else { most }
 }
 
 fn at_least(n: usize, least: usize) -> usize

@@ -36,8 +36,12 @@ number-back TooManyTransactions = refl
 number-back NoRoom = refl
 number-back NothingWritten = refl
 
+-- what has a way back is one to one
+pub back-inj : {A B : Type 0} (f : A → B) (g : B → A) → ((x : A) → g (f x) ≡ x) → (x y : A) → f x ≡ f y → x ≡ y
+back-inj f g h x y e = sym (h x) ∙ ap g e ∙ h y
+
 pub number-inj : (f g : Refusal) → numberOf f ≡ numberOf g → f ≡ g
-number-inj f g e = sym (number-back f) ∙ ap refusalOf e ∙ number-back g
+number-inj = back-inj numberOf refusalOf number-back
 
 -- and 0 is no refusal
 pub number-pos : (f : Refusal) → 0 < numberOf f

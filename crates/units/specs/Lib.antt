@@ -1,2 +1,4 @@
 pub mod Bounds
 pub mod Refusal
+pub mod Version
+pub mod Batch

@@ -1,6 +1,10 @@
 // The things that document 01 counts: stamps, ordinals, versions, bound triples, its limits, its rules and its refusals.
+ghost use Prim.Native.Nat.{min};
 ghost use mathlib.Core.Path.{_≡_};
+ghost use mathlib.Core.List.{[]};
+ghost use Rattle.units.specs.Batch.{batchOf, added};
 ghost use Rattle.units.specs.Bounds.{bounded, snapshot, default};
+ghost use Rattle.units.specs.Version.{startVersion};
 
 pub mod limits;
 mod refusal;
@@ -23,6 +27,19 @@ pub struct Version {
     pub value: i32,
 }
 
+impl Version {
+    // "0 for the start version (value 0, stamp 0)".
+    pub fn start() -> Version
+        ensures { λ r. ⌜ r ≡ startVersion ⌝ }
+    {
+        Version {
+            ordinal: Ordinal(0),
+            stamp: Stamp(0),
+            value: 0,
+        }
+    }
+}
+
 // A version as a message carries it: the stamp is the message's own.
 pub struct Item {
     pub key: u8,
@@ -34,6 +51,35 @@ pub struct Item {
 pub struct Batch {
     pub items: [Item; limits::WRITES],
     pub count: usize,
+}
+
+impl Batch {
+    pub fn empty() -> Batch
+        ensures { λ r. ⌜ r ≡ batchOf [] ⌝ }
+    {
+        let item = Item {
+            key: 0,
+            ordinal: Ordinal(0),
+            value: 0,
+        };
+        Batch {
+            items: [item; limits::WRITES],
+            count: 0,
+        }
+    }
+
+    // A seventeenth item is not added.
+    pub fn add(mut self, item: Item) -> Batch
+        ensures { λ r. ⌜ r ≡ added self item ⌝ }
+    {
+        let n = self.count;
+        if n < limits::WRITES {
+            self.items[n] = item;
+            self.count = n + 1;
+            return self;
+        }
+        self
+    }
 }
 
 // What a look-up answers.
@@ -90,4 +136,11 @@ impl Bounds {
         }
         Triple::Taken(Bounds { k1, k2, k3 })
     }
+}
+
+// A count that says more than there are places counts as the places.
+pub fn at_most(n: usize, most: usize) -> usize
+    ensures { λ r. ⌜ r ≡ min n most ⌝ }
+{
+    if n < most { n } else { most }
 }

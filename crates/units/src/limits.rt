@@ -18,6 +18,8 @@ pub const LOG: usize = 4096;
 pub const ANY: u16 = 65535;
 // A message is at most 333 bytes, of 1 to 16 versions.
 pub const MESSAGE: usize = 333;
+// The numbers of transactions in a written history are 1 to 4,294,967,295.
+pub const LAST_NAME: u32 = 4294967295;
 // A written history is at most 65,536 bytes, 4,096 lines and 512 transactions.
 pub const HISTORY: usize = 65536;
 

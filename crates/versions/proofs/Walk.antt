@@ -1,5 +1,5 @@
--- A walk over the log in its columns: what one version more tells of the newest, of a look-up and of a count.
-use Prim.Native.Nat.{ℕ, zero, suc, _+_, _-_, _≤_, _<_}
+-- A walk over the log in its columns: what one version more tells of the newest and of a look-up; and how many versions a key has at most.
+use Prim.Native.Nat.{ℕ, zero, suc, _-_, _≤_, _<_}
 use native.Mathlib.Omega.{arith}
 use mathlib.Core.Path.{_≡_}
 use mathlib.Core.Bool.{Bool, true, false, cond}
@@ -8,25 +8,14 @@ use lib.Dec.{eqb}
 use lib.IntN.{ℤ}
 use lib.ListN.{getD}
 use borrow.Author.Tests.{eq-eqb, ne-eqb}
+use Rattle.units.specs.Version.{startVersion}
 use Rattle.units.specs.declared.Version.{Version}
 use Rattle.units.specs.declared.Found.{Found}
 use Rattle.units.specs.declared.Found.the-variants.{At, Absent}
 use Rattle.lists.specs.Lists.{count}
-use Rattle.model.specs.Log.{ofKey, versionOf, startVersion, newest, logged, versions}
+use Rattle.model.specs.Log.{versionOf, newest, logged, versions}
 use Rattle.columns.specs.Columns.{entryAt, logOf}
-use Rattle.columns.proofs.Log.{log-back, log-more}
-use Rattle.versions.specs.Append.{hit}
-
-counts : (t : Bool) (n : ℕ) → cond t (suc n) n ≡ n + cond t 1 0
-counts true n = omega arith
-counts false n = omega arith
-
-pub hit-le : (k x : ℕ) → hit k x ≤ 1
-hit-le k x = small (eqb k x)
-  where
-    small : (t : Bool) → cond t 1 0 ≤ 1
-    small true = omega arith
-    small false = omega arith
+use Rattle.columns.proofs.Log.{log-back}
 
 module _ (k o s : List ℕ) (v : List ℤ) (x : ℕ) where
   -- from the newest end, i - 1 is the place looked at, and what is not yet looked at answers w
@@ -60,11 +49,7 @@ module _ (k o s : List ℕ) (v : List ℤ) (x : ℕ) where
     unfolding logged
     logged-other-key h e = rw (log-back k o s v i h, ne-eqb _ _ e) at a
 
-  -- from the oldest end, i is the place looked at
-  pub versions-more : (i : ℕ) → versions (logOf k o s v (i + 1)) x ≡ versions (logOf k o s v i) x + hit (getD k i 0) x
-  unfolding versions count
-  versions-more i = rw (log-more k o s v i) (counts (eqb (getD k i 0) x) (count (ofKey x) (logOf k o s v i)))
-
+  -- a key has at most as many versions as there are places
   pub versions-le : (i : ℕ) → versions (logOf k o s v i) x ≤ i
   unfolding versions count logOf
   versions-le zero = omega arith

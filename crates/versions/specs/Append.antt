@@ -1,9 +1,7 @@
 -- The four columns as one thing, and what one more version of a key lays into them.
 use Prim.Native.Nat.{ℕ}
-use mathlib.Core.Bool.{cond}
 use mathlib.Core.Path.{_≡_}
 use mathlib.Core.List.{List}
-use lib.Dec.{eqb}
 use lib.IntN.{ℤ}
 use lib.ListN.{length, set}
 use Rattle.model.specs.Log.{Entry}
@@ -48,7 +46,3 @@ pub record Sized (c : Columns) : Type 0 where
   pub ordinals : length (c .ordinals) ≡ 4096
   pub stamps : length (c .stamps) ≡ 4096
   pub values : length (c .values) ≡ 4096
-
--- 1 where a key is the one asked for
-abbrev pub hit : ℕ → ℕ → ℕ
-hit k x = cond (eqb k x) 1 0

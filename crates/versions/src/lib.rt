@@ -1,16 +1,16 @@
 // The log of committed versions in four lent columns: the newest version of a key, the version of an ordinal, the versions
 // of a commit, and the commit's own appended. Any columns are taken, and a length past the limit counts as the limit.
 ghost use mathlib.Core.Path.{_≡_};
-ghost use mathlib.Core.List.{List, []};
-ghost use Prim.Native.Nat.{ℕ, _+_, _≤_, _<_};
-ghost use lib.IntN.{ℤ};
+ghost use mathlib.Core.List.{[]};
+ghost use Prim.Native.Nat.{_+_, _≤_, _<_};
 ghost use lib.ListN as lists;
 ghost use Rattle.transaction.specs.Transaction.{writesOf};
-ghost use Rattle.model.specs.Log.{Entry, next, versionOf, startVersion, newest, lookUp, madeAt, versions, installed};
+ghost use Rattle.model.specs.Log.{Entry, next, versionOf, newest, lookUp, madeAt, installed};
 ghost use Rattle.columns.specs.Columns.{used, logOf, entryAt, appended, laid};
-ghost use Rattle.versions.specs.Batch.{batchOf, added, itemOf};
-ghost use Rattle.versions.specs.Append.{columns, stored, hit, Sized};
+ghost use Rattle.versions.specs.Batch.{batchOf, itemOf};
+ghost use Rattle.versions.specs.Append.{columns, stored, Sized};
 use columns::in_use;
+use counts::count_versions;
 use transaction::Transaction;
 use transaction::Write;
 use units::Batch;
@@ -39,7 +39,7 @@ pub fn newest(
             return version_at(ordinals, stamps, values, i);
         }
     }
-    start_version()
+    Version::start()
 }
 
 // The version of a key that has an ordinal; 0 is the start version's, which every key has.
@@ -56,7 +56,7 @@ pub fn look_up(
 {
     let wanted = ordinal.0;
     if wanted == 0 {
-        return Found::At(start_version());
+        return Found::At(Version::start());
     }
     let mut at = in_use(length);
     while 0 < at {
@@ -83,11 +83,11 @@ pub fn made_at(
 {
     let wanted = stamp.0;
     let end = in_use(length);
-    let mut batch = no_items();
+    let mut batch = Batch::empty();
     let mut i = 0;
     while i < end {
         if stamps[i] == wanted {
-            batch = add(batch, item_at(keys, ordinals, values, i));
+            batch = batch.add(item_at(keys, ordinals, values, i));
         }
         i += 1;
     }
@@ -113,7 +113,7 @@ pub fn install(
     ensures log { λ r. ⌜ (used length + lists.length (writesOf t) ≤ 4096 → logOf (now (keys .exit)) (now (ordinals .exit)) (now (stamps .exit)) (now (values .exit)) r ≡ installed (logOf (now (keys .entry)) (now (ordinals .entry)) (now (stamps .entry)) (now (values .entry)) (used length)) (stamp .0) (writesOf t)) ⌝ }
 {
     sized(keys, ordinals, stamps, values);
-    let end = written_in(t);
+    let end = t.writes_in();
     let mut at = in_use(length);
     let mut i = 0;
     while i < end {
@@ -170,38 +170,6 @@ fn seen_u32(column: &[u32]) {}
 
 fn seen_i32(column: &[i32]) {}
 
-// How many versions a key has, the start version not counted.
-fn count_versions(keys: &[u8; limits::LOG], length: usize, key: u8) -> u32
-    ensures { λ r. ⌜ ((o s : List ℕ) (v : List ℤ) → r ≡ versions (logOf (now (keys .entry)) o s v (used length)) key) ⌝ }
-{
-    let end = in_use(length);
-    let mut n = 0;
-    let mut i = 0;
-    while i < end {
-        n += hit(keys[i], key);
-        i += 1;
-    }
-    n
-}
-
-fn hit(k: u8, key: u8) -> u32
-    ensures { λ r. ⌜ r ≡ hit k key ⌝ }
-{
-    if k == key { 1 } else { 0 }
-}
-
-// How many keys a transaction has written, whatever its count says.
-fn written_in(t: Transaction) -> usize
-    ensures { λ r. ⌜ (r ≡ lists.length (writesOf t)) × (r ≤ 16) ⌝ }
-{
-    let n = t.written;
-    if n < limits::WRITES {
-        n
-    } else {
-        limits::WRITES
-    }
-}
-
 // The version that stands at a place.
 fn version_at(
     ordinals: &[u32; limits::LOG],
@@ -236,42 +204,4 @@ fn item_at(
         ordinal: Ordinal(ordinals[i]),
         value,
     }
-}
-
-// "0 for the start version (value 0, stamp 0)".
-fn start_version() -> Version
-    ensures { λ r. ⌜ r ≡ startVersion ⌝ }
-{
-    Version {
-        ordinal: Ordinal(0),
-        stamp: Stamp(0),
-        value: 0,
-    }
-}
-
-fn no_items() -> Batch
-    ensures { λ r. ⌜ r ≡ batchOf [] ⌝ }
-{
-    let item = Item {
-        key: 0,
-        ordinal: Ordinal(0),
-        value: 0,
-    };
-    Batch {
-        items: [item; limits::WRITES],
-        count: 0,
-    }
-}
-
-// A seventeenth item is not added.
-fn add(mut batch: Batch, item: Item) -> Batch
-    ensures { λ r. ⌜ r ≡ added batch item ⌝ }
-{
-    let n = batch.count;
-    if n < limits::WRITES {
-        batch.items[n] = item;
-        batch.count = n + 1;
-        return batch;
-    }
-    batch
 }

@@ -5,6 +5,7 @@ use mathlib.Core.Path.{_≡_, ap}
 use lib.ListN.{drop, length-drop}
 use lib.ListN as lists
 use borrow.Author.Needs.{needs}
+use Rattle.lists.proofs.Length.{length-mapped, front-size}
 use Rattle.transaction.specs.Transaction.{writesOf}
 use Rattle.columns.specs.Columns.{used}
 use Rattle.versions.specs.Append.{Columns, columns, Sized}
@@ -26,8 +27,8 @@ abbrev μ-loop : tie.MeasureT-loop
 sized-requires : tie.Need-sized-requires Inv-loop μ-loop
 sized-requires c κs = search needs
 
-written-in-requires : tie.Need-written-in-requires Inv-loop μ-loop
-written-in-requires c κs = search needs
+writes-in-requires : tie.Need-writes-in-requires Inv-loop μ-loop
+writes-in-requires c κs = search needs
 
 in-use-requires : tie.Need-in-use-requires Inv-loop μ-loop
 in-use-requires c κs = search needs
@@ -35,7 +36,9 @@ in-use-requires c κs = search needs
 loop-holds : tie.Need-loop-holds Inv-loop μ-loop
 loop-holds c =
     let z = c .before .before .sized .ensures in
-    (c .before .written-in .ensures, (omega arith, (z, rw (c .in-use .ensures) (left-all _ _ _ _ z (omega arith)))))
+    let t = c .before .before .before .before .before .before .before .args .t7 in
+    let l = front-size (t .written) (t .writes) 16 (search (needs, length-mapped)) in
+    ((c .before .writes-in .ensures, omega arith), (omega arith, (z, rw (c .in-use .ensures) (left-all _ _ _ _ z (omega arith)))))
 
 mul-append : tie.Need-mul-append Inv-loop μ-loop
 mul-append c = omega arith
@@ -94,7 +97,7 @@ install-spec =
     Inv-loop
     μ-loop
     sized-requires
-    written-in-requires
+    writes-in-requires
     in-use-requires
     loop-holds
     mul-append

@@ -20,12 +20,12 @@ Inv-loop keys ordinals stamps values length key wanted at₀ at =
 abbrev μ-loop : tie.MeasureT-loop
 μ-loop keys ordinals stamps values length key wanted at₀ at = at
 
-start-version-requires : tie.Need-start-version-requires Inv-loop μ-loop
-start-version-requires c κs = search needs
+start-requires : tie.Need-start-requires Inv-loop μ-loop
+start-requires c κs = search needs
 
 returns : tie.Need-returns Inv-loop μ-loop
 unfolding lookUp
-returns c = rw (eq-eqb _ _ (c .before .if1 .taken)) (ap At (c .start-version .ensures))
+returns c = rw (eq-eqb _ _ (c .before .if1 .taken)) (ap At (c .start .ensures))
 
 in-use-requires : tie.Need-in-use-requires Inv-loop μ-loop
 in-use-requires c κs = search needs
@@ -85,7 +85,7 @@ look-up-spec =
     (tie.spec
     Inv-loop
     μ-loop
-    start-version-requires
+    start-requires
     returns
     in-use-requires
     loop-holds

@@ -21,12 +21,12 @@ abbrev μ-loop : tie.MeasureT-loop
 in-use-requires : tie.Need-in-use-requires Inv-loop μ-loop
 in-use-requires c κs = search needs
 
-no-items-requires : tie.Need-no-items-requires Inv-loop μ-loop
-no-items-requires c κs = search needs
+empty-requires : tie.Need-empty-requires Inv-loop μ-loop
+empty-requires c κs = search needs
 
 loop-holds : tie.Need-loop-holds Inv-loop μ-loop
-unfolding madeAt logOf
-loop-holds c = (omega arith, (c .before .in-use .ensures, c .no-items .ensures))
+unfolding madeAt logOf batchOf
+loop-holds c = (omega arith, (c .before .in-use .ensures, c .empty .ensures))
 
 mul-if1 : tie.Need-mul-if1 Inv-loop μ-loop
 mul-if1 c = omega arith
@@ -72,7 +72,7 @@ made-at-spec =
     Inv-loop
     μ-loop
     in-use-requires
-    no-items-requires
+    empty-requires
     loop-holds
     mul-if1
     element-copy-out-if1

@@ -47,11 +47,11 @@ loop-again c =
     let d = c .before .before .before in
     (omega arith, newest-miss _ _ _ _ _ _ _ (d .loop .inv .1) (omega arith) (c .if1 .left))
 
-start-version-requires : tie.Need-start-version-requires Inv-loop μ-loop
-start-version-requires c κs = search needs
+start-requires : tie.Need-start-requires Inv-loop μ-loop
+start-requires c κs = search needs
 
 returns-2 : tie.Need-returns-2 Inv-loop μ-loop
-returns-2 c = c .start-version .ensures ∙ newest-over _ _ _ _ _ _ _ (c .before .before .loop .inv .1) (omega arith)
+returns-2 c = c .start .ensures ∙ newest-over _ _ _ _ _ _ _ (c .before .before .loop .inv .1) (omega arith)
 
 pub newest-spec : {M : Type 1} → statement M
 newest-spec =
@@ -67,5 +67,5 @@ newest-spec =
     returns
     loop-less
     loop-again
-    start-version-requires
+    start-requires
     returns-2)

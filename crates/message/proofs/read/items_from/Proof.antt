@@ -13,11 +13,11 @@ Inv-loop line stamp from batch₀ at₀ n₀ batch at n = SoFar (stamp .0) line 
 abbrev μ-loop : tie.MeasureT-loop
 μ-loop line stamp from batch₀ at₀ n₀ batch at n = 16 - n
 
-no-items-requires : tie.Need-no-items-requires Inv-loop μ-loop
-no-items-requires c κs = search needs
+empty-requires : tie.Need-empty-requires Inv-loop μ-loop
+empty-requires c κs = search needs
 
 loop-holds : tie.Need-loop-holds Inv-loop μ-loop
-loop-holds c = nothing-yet _ _ _ (c .no-items .ensures)
+loop-holds c = nothing-yet _ _ _ (c .empty .ensures)
 
 item-at-requires : tie.Need-item-at-requires Inv-loop μ-loop
 item-at-requires c κs = search needs
@@ -34,8 +34,8 @@ no-message-requires c κs = search needs
 returns : tie.Need-returns Inv-loop μ-loop
 returns c = items-none _ _ _ (c .before .before .before .before .before .loop .inv) (c .before .before .before .before .loop-test .taken) (c .before .before .before .item-at .ensures) (c .before .enum-told .given .1) (c .no-message .ensures)
 
-with-item-requires : tie.Need-with-item-requires Inv-loop μ-loop
-with-item-requires c κs = omega arith
+add-requires : tie.Need-add-requires Inv-loop μ-loop
+add-requires c κs = search needs
 
 ends-requires : tie.Need-ends-requires Inv-loop μ-loop
 ends-requires c κs = search needs
@@ -46,7 +46,7 @@ closed-requires c κs = search needs
 returns-2 : tie.Need-returns-2 Inv-loop μ-loop
 returns-2 c =
     let d = c .before .before .before in
-    items-end _ _ _ (d .before .before .before .before .before .before .loop .inv) (d .before .before .before .before .before .loop-test .taken) (d .before .before .before .before .item-at .ensures) (d .before .before .item .given .1) (d .with-item .ensures) (sym (c .before .before .ends .ensures) ∙ c .before .if1 .taken) (c .closed .ensures)
+    items-end _ _ _ (d .before .before .before .before .before .before .loop .inv) (d .before .before .before .before .before .loop-test .taken) (d .before .before .before .before .item-at .ensures) (d .before .before .item .given .1) (d .add .ensures) (sym (c .before .before .ends .ensures) ∙ c .before .if1 .taken) (c .closed .ensures)
 
 add-n : tie.Need-add-n Inv-loop μ-loop
 add-n c = omega arith
@@ -57,7 +57,7 @@ loop-less c = omega arith
 loop-again : tie.Need-loop-again Inv-loop μ-loop
 loop-again c =
     let d = c .before .before in
-    items-on _ _ _ (d .before .before .before .before .before .before .loop .inv) (d .before .before .before .before .before .loop-test .taken) (d .before .before .before .before .item-at .ensures) (d .before .before .item .given .1) (d .with-item .ensures) (sym (c .before .ends .ensures) ∙ c .if1 .left)
+    items-on _ _ _ (d .before .before .before .before .before .before .loop .inv) (d .before .before .before .before .before .loop-test .taken) (d .before .before .before .before .item-at .ensures) (d .before .before .item .given .1) (d .add .ensures) (sym (c .before .ends .ensures) ∙ c .if1 .left)
 
 no-message-requires-2 : tie.Need-no-message-requires-2 Inv-loop μ-loop
 no-message-requires-2 c κs = search needs
@@ -71,14 +71,14 @@ items-from-spec =
     (tie.spec
     Inv-loop
     μ-loop
-    no-items-requires
+    empty-requires
     loop-holds
     item-at-requires
     enum-known-item
     enum-told
     no-message-requires
     returns
-    with-item-requires
+    add-requires
     ends-requires
     closed-requires
     returns-2
