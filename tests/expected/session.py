@@ -92,12 +92,18 @@ class Session:
         m.open[m.clock] = {"bounds": (1, 0, 0), "reads": [], "writes": {}}
         return "start %d" % m.clock
 
-    def do_read(self, t, key):
-        m = self.m
-        if t not in m.open:
+    # "Read, write: 1, 2, ..", "Note: 1, 2, .."
+    def barred(self, t, key):
+        if t not in self.m.open:
             return self.refuse(1)
         if key > 63:
             return self.refuse(2)
+        return None
+
+    def do_read(self, t, key):
+        m, barred = self.m, self.barred(t, key)
+        if barred:
+            return barred
         if key in m.open[t]["writes"]:
             return "own %d" % m.open[t]["writes"][key]
         if len(m.open[t]["reads"]) == 16:
@@ -107,11 +113,9 @@ class Session:
         return "read %d %d %d" % (o, s, v)
 
     def do_note(self, t, key, ordinal):
-        m = self.m
-        if t not in m.open:
-            return self.refuse(1)
-        if key > 63:
-            return self.refuse(2)
+        m, barred = self.m, self.barred(t, key)
+        if barred:
+            return barred
         if key in m.open[t]["writes"]:
             return self.refuse(8)
         if ordinal >= len(m.versions(key)):
@@ -123,11 +127,9 @@ class Session:
         return "note %d %d %d" % (o, s, v)
 
     def do_write(self, t, key, value):
-        m = self.m
-        if t not in m.open:
-            return self.refuse(1)
-        if key > 63:
-            return self.refuse(2)
+        m, barred = self.m, self.barred(t, key)
+        if barred:
+            return barred
         if key not in m.open[t]["writes"] and len(m.open[t]["writes"]) == 16:
             return self.refuse(4)
         m.open[t]["writes"][key] = value

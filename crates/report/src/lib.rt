@@ -15,6 +15,7 @@ use decimal::put_natural;
 use decimal::put_text;
 use records::Totals;
 use units::Refusal;
+use units::at_most;
 use units::limits;
 
 // The length of the text, or NoRoom where the lent room is shorter.
@@ -181,8 +182,5 @@ fn put_number(text: &mut [u8], at: usize, n: u32, then: u8) -> usize
 fn in_use(count: usize) -> usize
     ensures { λ r. ⌜ r ≡ min count 512 ⌝ }
 {
-    if limits::TRANSACTIONS <= count {
-        return limits::TRANSACTIONS;
-    }
-    count
+    at_most(count, limits::TRANSACTIONS)
 }

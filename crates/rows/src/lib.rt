@@ -11,16 +11,13 @@ use records::ABORTED;
 use records::NOWHERE;
 use records::Row;
 use units::Bounds;
+use units::at_most;
 use units::limits;
 
 pub fn in_use(count: usize) -> usize
     ensures { λ r. ⌜ r ≡ used count ⌝ }
 {
-    if count < limits::TRANSACTIONS {
-        count
-    } else {
-        limits::TRANSACTIONS
-    }
+    at_most(count, limits::TRANSACTIONS)
 }
 
 // The newest row of a name, by its number from 1; 0 where there is none.

@@ -13,13 +13,10 @@ use units::Rule;
 use units::Version;
 
 pub(crate) fn put_word(out: &mut [u8], at: usize, word: &[u8]) -> usize {
-    let mut to = at;
-    let mut i = 0;
-    while i < word.len() {
-        to = put_one(out, to, word[i]);
-        i += 1;
-    }
-    to
+    let Put::Next(e) = decimal::put_text(out, at, word) else {
+        return at;
+    };
+    e
 }
 
 fn put_one(out: &mut [u8], at: usize, b: u8) -> usize {

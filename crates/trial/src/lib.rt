@@ -15,16 +15,13 @@ use records::Verdict;
 use rows::count_between;
 use rows::count_within;
 use rows::overtaken;
+use units::at_most;
 use units::limits;
 
 pub fn in_use(count: usize) -> usize
     ensures { λ r. ⌜ r ≡ used count ⌝ }
 {
-    if count < limits::LINES {
-        count
-    } else {
-        limits::LINES
-    }
+    at_most(count, limits::LINES)
 }
 
 // What the rules say of a commit at a line: ok, or the first that is broken of RC, BV, FV, SV and WC. Of the lines read, only the latest
