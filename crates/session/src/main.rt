@@ -72,15 +72,15 @@ fn play_line(
     p: Table,
     n: usize,
 ) -> Table {
-    let q = roomy(out, p);
+    let mut q = p;
+    let written = roomy(out, p.written);
+    q.written = written;
+    q.read = 0;
     if n < LINE {
-        return counted(
-            play(front(line, n + 1), keys, ordinals, stamps, values, out, q),
-            0,
-        );
+        return play(front(line, n + 1), keys, ordinals, stamps, values, out, q);
     }
-    let at = put_word(out, q.written, b"unknown\n");
-    counted(said(q, at), 0)
+    let at = put_word(out, written, b"unknown\n");
+    said(q, at)
 }
 
 fn keep(line: &mut [u8], n: usize, b: u8) {
@@ -104,16 +104,16 @@ fn longer(n: usize) -> usize {
 }
 
 // Room for one reply more: what is written goes out where there is too little.
-fn roomy(out: &mut [u8], p: Table) -> Table {
-    if p.written < OUTPUT - REPLY {
-        return p;
+fn roomy(out: &mut [u8], written: usize) -> usize {
+    if written < OUTPUT - REPLY {
+        return written;
     }
-    flush(out, p)
+    flush(out, written);
+    0
 }
 
-fn flush(out: &mut [u8], p: Table) -> Table {
-    io::write_all(STDOUT_FILENO, front(out, p.written));
-    said(p, 0)
+fn flush(out: &[u8], written: usize) {
+    io::write_all(STDOUT_FILENO, front(out, written));
 }
 
 fn feed_all(
@@ -205,5 +205,5 @@ fn main() {
             more = t.more;
         }
     }
-    flush(&mut out, p);
+    flush(&out, p.written);
 }
