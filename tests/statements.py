@@ -19,17 +19,21 @@ for path in glob.glob("crates/*/src/*.rt"):
     text = open(path).read()
     names.update(re.findall(r"\b(?:fn|struct|enum|const|mod)\s+(\w+)", text))
     names.update(re.findall(r"^\s+([A-Z]\w*)\b", text, re.M))
-names.update(os.path.basename(p)[:-5] for p in glob.glob("crates/*/must-fail/*.edit"))
+names.update(os.path.basename(p)[:-5] for p in glob.glob("crates/*/must-fail/*.edit") + glob.glob("tests/wrong/*/*.edit"))
 names.update(os.listdir("crates"))
 
+# words of Rattle, of what is printed, and of parameters
+WORDS = ("requires", "ensures", "specs", "proofs", "refused", "judge", "total", "own", "u16", "i32", "bad-", "libc::read", "libc::write", "since", "opening")
+
 lost = 0
-crate = None
 for number, line in enumerate(open("docs/STATEMENTS.md"), 1):
     for quoted in re.findall(r"`([^`]+)`", line):
-        if "/" in quoted or quoted.endswith((".antt", ".rt", ".py")):
+        if " " in quoted:
+            found = True
+        elif "/" in quoted or quoted.endswith((".antt", ".rt", ".py")):
             found = glob.glob(quoted) or glob.glob("crates/*/" + quoted) or glob.glob("crates/*/*/" + quoted) or quoted.endswith("NAME.edit")
         elif re.fullmatch(r"[\w·-]{3,}(::[\w-]+)*", quoted):
-            found = all(part in names for part in quoted.split("::")) or quoted in ("requires", "ensures", "specs", "proofs", "refused", "judge", "total", "own", "u16", "i32", "bad-", "libc::read", "libc::write")
+            found = all(part in names for part in quoted.split("::")) or quoted in WORDS
         else:
             found = True
         if not found:
