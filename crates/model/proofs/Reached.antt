@@ -29,7 +29,7 @@ use Rattle.model.specs.Log.{newest, lookUp}
 use Rattle.model.specs.Rules.{certified}
 use Rattle.model.specs.State.{State, opened, noTransaction, goesBy, placeOf, nobody, transaction, freePlace, withTransaction}
 use Rattle.model.specs.Call.{Call, Start, Read, Note, Write, Tune, Distance, Abort, Commit, Message, Newest}
-use Rattle.model.specs.Step.{Step, step, starts, reads, notes, marked, records, noKey, readsFull, hasWritten, ends, aborts, commits}
+use Rattle.model.specs.Step.{Step, step, checksOf, finalOf, starts, reads, notes, marked, records, noKey, readsFull, hasWritten, ends, aborts, commits}
 use Rattle.model.specs.Session.{reached}
 use Rattle.model.specs.Reached.{Good, Seated, Stands, bare, grew}
 use Rattle.model.proofs.Order.{order-by, order-end}
@@ -112,7 +112,7 @@ module _ {opening : ℕ} (s : State) (g : Good opening s) where
 
   module _ (n : ℕ) (known : nobody s n ≡ false) where
     pub placed : placeOf (s .place) n < length (s .place)
-    placed = rw (g .desk) (leb-false 32 (placeOf (s .place) n) known)
+    placed = let h = leb-false _ (placeOf (s .place) n) known in rw (g .desk) (omega arith)
 
     -- the transaction found by a name is open and has that name
     pub is-open : (transaction s n .live ≡ true) × (transaction s n .name .0 ≡ n)
@@ -184,7 +184,7 @@ module _ {opening : ℕ} (s : State) (g : Good opening s) where
 
   -- every call keeps a good state good
   pub good-step : (c : Call) → Good opening (step s c .state)
-  unfolding step
+  unfolding step checksOf finalOf
   good-step Start =
       order-by Kept _ _ _ (λ h. g) (λ free.
       order-by Kept _ _ _ (λ h. g) (λ ticks.

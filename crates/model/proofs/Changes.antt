@@ -1,0 +1,282 @@
+-- What each call does to the transaction that it names, at its place, and that it does nothing else: the promises of document 01's transaction
+-- steps, in every state that a session reaches.
+use Prim.Native.Nat.{ℕ, suc, _≤_, _<_}
+use native.Mathlib.Omega.{arith}
+use native.Mathlib.Decide.{ℕ-discrete}
+use mathlib.Core.Path.{_≡_, refl, sym, _∙_, ap, subst}
+use mathlib.Core.Logic.{_≢_}
+use mathlib.Core.Bool.{Bool, true, false, not, _&&_, cond, true≢false, false≢true}
+use mathlib.Core.List.{List, [], _∷_, _++_, map}
+use lib.Dec.{ltb}
+use lib.IntN.{ℤ}
+use lib.ListN.{length, getD, set, length-set}
+use lib.Seq.{getD-set-same, getD-set-other}
+use borrow.Author.Tests.{leb-false, le-ltb, lt-ltb, eq-eqb, ne-eqb}
+use Rattle.lists.specs.Lists.{find, Every, none, also}
+use Rattle.lists.specs.Members.{In, here, below, Distinct, apart}
+use Rattle.lists.proofs.Find.{find-holds, find-first}
+use Rattle.lists.proofs.Members.{every-in, in-map, in-right, getD-in}
+use Rattle.units.specs.Bounds.{triple}
+use Rattle.units.specs.declared.Stamp.{Stamp}
+use Rattle.units.specs.declared.Version.{Version}
+use Rattle.units.specs.declared.Found.{Found}
+use Rattle.units.specs.declared.Found.the-variants.{At, Absent}
+use Rattle.units.specs.declared.rule.Rule.{Rule}
+use Rattle.units.specs.declared.rule.Certified.{Certified}
+use Rattle.units.specs.declared.rule.Certified.the-variants.{Whole, Broken}
+use Rattle.transaction.specs.declared.Mark.{Mark}
+use Rattle.transaction.specs.declared.Write as pending
+use Rattle.transaction.specs.declared.Transaction.{Transaction}
+use Rattle.transaction.specs.declared.Pending.{Pending}
+use Rattle.transaction.specs.declared.Pending.the-variants.{Value, Nothing}
+use Rattle.transaction.specs.Transaction.{fresh, tuned, ended, recorded, written, wroteAt, isKey, pendingOf, readsOf, writesOf, noWrite}
+use Rattle.model.specs.Log.{newest, lookUp}
+use Rattle.model.specs.Rules.{certified}
+use Rattle.model.specs.State.{State, noTransaction, atPlace, placeOf, nobody, transaction, freePlace, withTransaction}
+use Rattle.model.specs.Open.{OpenAt, Of}
+use Rattle.model.specs.Call.{Start, Read, Note, Write, Tune, Abort, Commit, started, version, own, done, committed, aborted}
+use Rattle.model.specs.Step.{Step, step, order, checksOf, finalOf, answers, marked, reads, notes, readsFull, hasWritten, writesFull, ends, aborts}
+use Rattle.model.specs.Reached.{Good, keysOf, NewestOf, Numbered}
+use Rattle.model.specs.Checks.{AllOpen}
+use Rattle.model.specs.Changes.{Becomes, Unmoved, Itself, Ends, OnlyEnds, Records, Puts, again, anew, Rewrites, Seats}
+use Rattle.model.proofs.Replies.{other}
+use Rattle.model.proofs.Order.{order-by, order-end}
+use Rattle.model.proofs.History.{chain, newest-is}
+use Rattle.model.proofs.LookUps.{found-exactly}
+use Rattle.model.proofs.Seats.{recorded-records, written-rewrites}
+use Rattle.model.proofs.Reached.{placed, seat, is-open, good-step}
+use Rattle.model.proofs.Desk.{standing, not-nobody, one-place, found, underway-at}
+
+module _ {opening : ℕ} (s : State) (g : Good opening s) where
+  module _ (n : ℕ) where
+    -- the transaction found is replaced at its place
+    becomes-with : nobody s n ≡ false → (P : Transaction → Transaction → Type 0) (t : Transaction) → P (transaction s n) t → Becomes s n P (withTransaction s n t)
+    becomes-with known P t p =
+        record {
+          place = placeOf (s .place) n;
+          stands = standing s g n known;
+          becomes = rw (getD-set-same (s .place) (placeOf (s .place) n) t noTransaction (placed s g n known)) p;
+          others = λ i h. getD-set-other (s .place) (placeOf (s .place) n) i t noTransaction h;
+          size = length-set (s .place) (placeOf (s .place) n) t;
+        }
+
+    still : (t : Transaction) → Unmoved s (withTransaction s n t)
+    still t = record { clock = refl; log = refl }
+
+    only-ends : nobody s n ≡ false → OnlyEnds s n (ends s n)
+    only-ends known = record { ends = becomes-with known Ends (ended (transaction s n)) refl; rest = still (ended (transaction s n)) }
+
+    -- "The client may abort": "An abort only ends its transaction"
+    pub aborts-only : step s (Abort n) .reply ≡ done → OnlyEnds s n (step s (Abort n) .state)
+    unfolding step checksOf finalOf
+    aborts-only =
+        order-by P _ _ _ (λ h e. other e tt) (λ known.
+        order-end P _ (λ e. only-ends known))
+      where
+        P : Step → Type 0
+        P d = d .reply ≡ done → OnlyEnds s n (d .state)
+
+    -- "The answer is committed with its stamp, or aborted", and that too only ends its transaction
+    pub broken-only : (r : Rule) → step s (Commit n) .reply ≡ aborted r → OnlyEnds s n (step s (Commit n) .state)
+    unfolding step checksOf finalOf
+    broken-only r =
+        order-by P _ _ _ (λ h e. other e tt) (λ known.
+        order-by P (aborts s n (certified (s .log) (transaction s n))) _ _ (go known (certified (s .log) (transaction s n))) (λ h.
+        order-by P _ _ _ (λ h e. other e tt) (λ h.
+        order-by P _ _ _ (λ h e. other e tt) (λ h.
+        order-end P _ (λ e. other e tt)))))
+      where
+        P : Step → Type 0
+        P d = d .reply ≡ aborted r → OnlyEnds s n (d .state)
+
+        go : nobody s n ≡ false → (c : Certified) → aborts s n c .holds ≡ true → P (aborts s n c .step)
+        go known Whole h = absurd (false≢true h)
+        go known (Broken q) h = λ e. only-ends known
+
+    -- a granted commit ends its transaction, and leaves every other place
+    pub commit-ends : (m : ℕ) → step s (Commit n) .reply ≡ committed m → Becomes s n Ends (step s (Commit n) .state)
+    unfolding step checksOf finalOf
+    commit-ends m =
+        order-by P _ _ _ (λ h e. other e tt) (λ known.
+        order-by P (aborts s n (certified (s .log) (transaction s n))) _ _ (go (certified (s .log) (transaction s n))) (λ h.
+        order-by P _ _ _ (λ h e. other e tt) (λ h.
+        order-by P _ _ _ (λ h e. other e tt) (λ h.
+        order-end P _ (λ e. let b = only-ends known .ends in record { place = b .place; stands = b .stands; becomes = b .becomes; others = b .others; size = b .size })))))
+      where
+        P : Step → Type 0
+        P d = d .reply ≡ committed m → Becomes s n Ends (d .state)
+
+        go : (c : Certified) → aborts s n c .holds ≡ true → P (aborts s n c .step)
+        go Whole h = absurd (false≢true h)
+        go (Broken q) h = λ e. other e tt
+
+    -- "The triple belongs to one transaction and may be tuned until its commit"
+    pub tune-sets : (k1 k2 k3 : ℕ) → step s (Tune n k1 k2 k3) .reply ≡ done
+        → Becomes s n (λ (t u : Transaction). u ≡ tuned t (triple k1 k2 k3)) (step s (Tune n k1 k2 k3) .state) × Unmoved s (step s (Tune n k1 k2 k3) .state)
+    unfolding step checksOf finalOf
+    tune-sets k1 k2 k3 =
+        order-by P _ _ _ (λ h e. other e tt) (λ known.
+        order-by P _ _ _ (λ h e. other e tt) (λ bound.
+        order-end P _ (λ e. (becomes-with known Q (tuned (transaction s n) (triple k1 k2 k3)) refl, still (tuned (transaction s n) (triple k1 k2 k3))))))
+      where
+        Q : Transaction → Transaction → Type 0
+        Q t u = u ≡ tuned t (triple k1 k2 k3)
+
+        P : Step → Type 0
+        P d = d .reply ≡ done → Becomes s n Q (d .state) × Unmoved s (d .state)
+
+    module _ (k : ℕ) where
+      records : (v : Version) → nobody s n ≡ false → readsFull (transaction s n) ≡ false
+          → Becomes s n (Records (marked k v)) (withTransaction s n (recorded (transaction s n) (marked k v)))
+      records v known full =
+          becomes-with known (Records (marked k v)) (recorded (transaction s n) (marked k v))
+          (recorded-records (transaction s n) (marked k v) (let h = leb-false _ (transaction s n .recorded) full in omega arith) (seat s g n known))
+
+      -- "A read at the master answers the key's newest version and records it"; "Two reads of one key are two records"
+      pub read-records : (v : Version) → step s (Read n k) .reply ≡ version v
+          → NewestOf (s .log) k v × Becomes s n (Records (marked k v)) (step s (Read n k) .state) × Unmoved s (step s (Read n k) .state)
+      unfolding step checksOf finalOf
+      read-records v =
+          order-by P _ _ _ (λ h e. other e tt) (λ known.
+          order-by P _ _ _ (λ h e. other e tt) (λ key.
+          order-by P _ _ _ (λ h e. other e tt) (λ full.
+          order-end P _ (go known (pendingOf (transaction s n) k) full))))
+        where
+          P : Step → Type 0
+          P d = d .reply ≡ version v → NewestOf (s .log) k v × Becomes s n (Records (marked k v)) (d .state) × Unmoved s (d .state)
+
+          go : nobody s n ≡ false → (p : Pending) → (not (hasWritten p) && readsFull (transaction s n)) ≡ false → P (reads s n k p)
+          go known (Value w) full e = other e tt
+          go known Nothing full e =
+              let z : newest (s .log) k ≡ v = cc in
+              (rw (← z) (newest-is (chain (g .history)) k), rw (← z) (records (newest (s .log) k) known full), still (recorded (transaction s n) (marked k (newest (s .log) k))))
+
+      -- "A note records a version .. by key and ordinal; the master looks it up and believes nothing else, and answers that version"
+      pub note-records : (o : ℕ) (v : Version) → step s (Note n k o) .reply ≡ version v
+          → Numbered (s .log) k o v × Becomes s n (Records (marked k v)) (step s (Note n k o) .state) × Unmoved s (step s (Note n k o) .state)
+      unfolding step checksOf finalOf
+      note-records o v =
+          order-by P _ _ _ (λ h e. other e tt) (λ known.
+          order-by P _ _ _ (λ h e. other e tt) (λ key.
+          order-by P _ _ _ (λ h e. other e tt) (λ wrote.
+          order-by P _ _ _ (λ h e. other e tt) (λ absent.
+          order-by P _ _ _ (λ h e. other e tt) (λ full.
+          order-end P _ (go known (lookUp (s .log) k o) refl full))))))
+        where
+          P : Step → Type 0
+          P d = d .reply ≡ version v → Numbered (s .log) k o v × Becomes s n (Records (marked k v)) (d .state) × Unmoved s (d .state)
+
+          go : nobody s n ≡ false → (f : Found) → lookUp (s .log) k o ≡ f → readsFull (transaction s n) ≡ false → P (notes s n k f)
+          go known (At w) q full e =
+              let z : w ≡ v = cc in
+              (found-exactly k o (chain (g .history)) v .0 (q ∙ ap At z), rw (← z) (records w known full), still (recorded (transaction s n) (marked k w)))
+          go known Absent q full e = other e tt
+
+      -- "A second write of a key replaces the value and takes no new place"
+      pub write-puts : (v : ℤ) → step s (Write n k v) .reply ≡ done → Becomes s n (Rewrites k v) (step s (Write n k v) .state) × Unmoved s (step s (Write n k v) .state)
+      unfolding step checksOf finalOf
+      write-puts v =
+          order-by P _ _ _ (λ h e. other e tt) (λ known.
+          order-by P _ _ _ (λ h e. other e tt) (λ key.
+          order-by P _ _ _ (λ h e. other e tt) (λ full.
+          order-end P _ (λ e. (becomes-with known (Rewrites k v) (written (transaction s n) k v) (rewrites known full), still (written (transaction s n) k v))))))
+        where
+          P : Step → Type 0
+          P d = d .reply ≡ done → Becomes s n (Rewrites k v) (d .state) × Unmoved s (d .state)
+
+          rewrites : nobody s n ≡ false → writesFull (transaction s n) k ≡ false → Rewrites k v (transaction s n) (written (transaction s n) k v)
+          rewrites known full =
+              written-rewrites (transaction s n) k v (seat s g n known .pending) (seat s g n known .written) (leb-false 16 (wroteAt (transaction s n) k) full)
+
+  -- Start
+  pub start-seats : (m : ℕ) → step s Start .reply ≡ started m → Seats s m (step s Start .state) × (step s Start .state .log ≡ s .log)
+  unfolding step checksOf finalOf freePlace
+  start-seats m =
+      order-by P _ _ _ (λ h e. other e tt) (λ room.
+      order-by P _ _ _ (λ h e. other e tt) (λ ticks.
+      order-end P _ (λ e. let z : suc (s .clock) ≡ m = cc in let h : freePlace (s .place) < 32 = leb-false 32 (freePlace (s .place)) room in (
+        record {
+          place = freePlace (s .place);
+          within = h;
+          free = closed _ (find-holds unused (s .place) noTransaction (rw (g .desk) h));
+          lower = λ i l. taken _ (find-first unused (s .place) noTransaction i l);
+          taken = rw (← z) (getD-set-same (s .place) (freePlace (s .place)) (fresh (suc (s .clock))) noTransaction (rw (g .desk) h));
+          others = λ i n. getD-set-other (s .place) (freePlace (s .place)) i (fresh (suc (s .clock))) noTransaction n;
+        },
+        refl,
+      ))))
+    where
+      P : Step → Type 0
+      P d = d .reply ≡ started m → Seats s m (d .state) × (d .state .log ≡ s .log)
+
+      unused : Transaction → Bool
+      unused t = not (t .live)
+
+      closed : (b : Bool) → not b ≡ true → b ≡ false
+      closed true e = absurd (false≢true e)
+      closed false e = refl
+
+      taken : (b : Bool) → not b ≡ false → b ≡ true
+      taken true e = refl
+      taken false e = absurd (true≢false e)
+
+-- the write of a key among those written, each key once
+sole-write : (w : pending.Write) (ws : List pending.Write) → Distinct (keysOf ws) → In w ws → (find (isKey (w .key)) ws < length ws) × (getD ws (find (isKey (w .key)) ws) noWrite ≡ w)
+unfolding find
+sole-write w (y ∷ ws) d here = rw (eq-eqb (w .key) (w .key) refl) (omega arith, refl)
+sole-write w (y ∷ ws) (apart h d) (below i) =
+    rw (ne-eqb (y .key) (w .key) (λ q. every-in h (in-map (λ (x : pending.Write). x .key) i) (sym q)))
+    (let r = sole-write w ws d i in (omega arith, r .1))
+
+pending-value : (t : Transaction) (k : ℕ) (v : ℤ) → Distinct (keysOf (writesOf t)) → In (record { key = k; value = v }) (writesOf t) → pendingOf t k ≡ Value v
+unfolding pendingOf wroteAt
+pending-value t k v d i = let r = sole-write (record { key = k; value = v }) (writesOf t) d i in rw (lt-ltb _ _ (r .0), r .1)
+
+-- "If this transaction has written the key, it answers the pending value and records nothing"
+pub own-read : {opening : ℕ} (s : State) → Good opening s → (n i k : ℕ) (v : ℤ) → OpenAt s n i → k ≤ 63 → In (record { key = k; value = v }) (writesOf (atPlace s i))
+    → step s (Read n k) ≡ answers s (own v)
+unfolding step checksOf finalOf order
+own-read s g n i k v o key h =
+    rw (not-nobody s g n o, le-ltb 63 k key, found s g n o, pending-value (atPlace s i) k v (underway-at s g n o .writes .once) h)
+
+-- what a write put is among the writes
+put-in : {k : ℕ} {v : ℤ} {ws us : List pending.Write} → Puts k v ws us → In (record { key = k; value = v }) us
+put-in {k} {v} {ws} (again i h e) =
+    rw (getD-set-same ws i (record { key = k; value = v }) noWrite h) at (getD-in (set ws i (record { key = k; value = v })) i noWrite (rw (length-set ws i (record { key = k; value = v })) h))
+put-in {ws = ws} (anew n) = in-right ws here
+
+-- and a read then answers it: "A second write of a key replaces the value"
+pub read-written : {opening : ℕ} (s : State) → Good opening s → (n k : ℕ) (v : ℤ) → k ≤ 63 → step s (Write n k v) .reply ≡ done
+    → step (step s (Write n k v) .state) (Read n k) .reply ≡ own v
+read-written s g n k v key e =
+    let b = write-puts s g n k v e .0 in
+    ap (λ (d : Step). d .reply) (own-read (step s (Write n k v) .state) (good-step s g (Write n k v)) n (b .place) k v
+    (record {
+      place = b .stands .place;
+      live = b .becomes .rest .live ∙ b .stands .live;
+      name = ap (λ (x : Stamp). x .0) (b .becomes .rest .name) ∙ b .stands .name;
+    })
+    key (put-in (b .becomes .writes)))
+
+-- "an ended one frees its place, and the place is used again": a start is not refused for want of a place, and where every other place is taken
+-- it takes this one
+module _ {opening : ℕ} (s after : State) (g : Good opening after) (n : ℕ) (b : Becomes s n Ends after) where
+  freed : atPlace after (b .place) .live ≡ false
+  freed = ap (λ (t : Transaction). t .live) (b .becomes)
+
+  pub place-free : ¬ AllOpen after
+  place-free h = true≢false (sym (h (b .place) (b .stands .place)) ∙ freed)
+
+  pub used-again : ((i : ℕ) → i < 32 → i ≢ b .place → atPlace s i .live ≡ true) → (m : ℕ) → step after Start .reply ≡ started m → OpenAt (step after Start .state) m (b .place)
+  used-again others m e =
+      let q = start-seats after g m e .0 in
+      let z : q .place ≡ b .place = go q (ℕ-discrete (q .place) (b .place)) in
+      record {
+        place = b .stands .place;
+        live = rw z at (ap (λ (t : Transaction). t .live) (q .taken));
+        name = rw z at (ap (λ (t : Transaction). t .name .0) (q .taken));
+      }
+    where
+      go : (q : Seats after m (step after Start .state)) → Dec (q .place ≡ b .place) → q .place ≡ b .place
+      go q (yes z) = z
+      go q (no h) = absurd (true≢false (sym (others (q .place) (q .within) h) ∙ ap (λ (t : Transaction). t .live) (sym (b .others (q .place) h)) ∙ q .free))
