@@ -2,50 +2,42 @@
 -- steps, in every state that a session reaches.
 use Prim.Native.Nat.{ℕ, suc, _≤_, _<_}
 use native.Mathlib.Omega.{arith}
-use native.Mathlib.Decide.{ℕ-discrete}
-use mathlib.Core.Path.{_≡_, refl, sym, _∙_, ap, subst}
-use mathlib.Core.Logic.{_≢_}
-use mathlib.Core.Bool.{Bool, true, false, not, _&&_, cond, true≢false, false≢true}
-use mathlib.Core.List.{List, [], _∷_, _++_, map}
-use lib.Dec.{ltb}
+use mathlib.Core.Path.{_≡_, refl, sym, _∙_, ap}
+use mathlib.Core.Bool.{Bool, true, false, not, _&&_, true≢false, false≢true}
+use mathlib.Core.List.{List, _∷_}
 use lib.IntN.{ℤ}
-use lib.ListN.{length, getD, set, length-set}
+use lib.ListN.{length, getD, length-set}
 use lib.Seq.{getD-set-same, getD-set-other}
 use borrow.Author.Tests.{leb-false, le-ltb, lt-ltb, eq-eqb, ne-eqb}
-use Rattle.lists.specs.Lists.{find, Every, none, also}
+use Rattle.lists.specs.Lists.{find, also}
 use Rattle.lists.specs.Members.{In, here, below, Distinct, apart}
 use Rattle.lists.proofs.Find.{find-holds, find-first}
-use Rattle.lists.proofs.Members.{every-in, in-map, in-right, getD-in}
+use Rattle.lists.proofs.Members.{every-in, in-map}
 use Rattle.units.specs.Bounds.{triple}
-use Rattle.units.specs.declared.Stamp.{Stamp}
 use Rattle.units.specs.declared.Version.{Version}
 use Rattle.units.specs.declared.Found.{Found}
 use Rattle.units.specs.declared.Found.the-variants.{At, Absent}
 use Rattle.units.specs.declared.rule.Rule.{Rule}
-use Rattle.units.specs.declared.rule.Certified.{Certified}
-use Rattle.units.specs.declared.rule.Certified.the-variants.{Whole, Broken}
-use Rattle.transaction.specs.declared.Mark.{Mark}
 use Rattle.transaction.specs.declared.Write as pending
 use Rattle.transaction.specs.declared.Transaction.{Transaction}
 use Rattle.transaction.specs.declared.Pending.{Pending}
 use Rattle.transaction.specs.declared.Pending.the-variants.{Value, Nothing}
-use Rattle.transaction.specs.Transaction.{fresh, tuned, ended, recorded, written, wroteAt, isKey, pendingOf, readsOf, writesOf, noWrite}
+use Rattle.transaction.specs.Transaction.{fresh, tuned, ended, recorded, written, wroteAt, isKey, pendingOf, writesOf, noWrite}
 use Rattle.model.specs.Log.{newest, lookUp}
-use Rattle.model.specs.Rules.{certified}
 use Rattle.model.specs.State.{State, noTransaction, atPlace, placeOf, nobody, transaction, freePlace, withTransaction}
-use Rattle.model.specs.Open.{OpenAt, Of}
+use Rattle.model.specs.Open.{OpenAt}
 use Rattle.model.specs.Call.{Start, Read, Note, Write, Tune, Abort, Commit, started, version, own, done, committed, aborted}
-use Rattle.model.specs.Step.{Step, step, order, checksOf, finalOf, answers, marked, reads, notes, readsFull, hasWritten, writesFull, ends, aborts}
+use Rattle.model.specs.Step.{Step, step, order, checksOf, finalOf, answers, marked, reads, notes, readsFull, hasWritten, writesFull, ends}
 use Rattle.model.specs.Reached.{Good, keysOf, NewestOf, Numbered}
-use Rattle.model.specs.Checks.{AllOpen}
-use Rattle.model.specs.Changes.{Becomes, Unmoved, Itself, Ends, OnlyEnds, Records, Puts, again, anew, Rewrites, Seats}
+use Rattle.model.specs.Changes.{Becomes, Unmoved, Ends, OnlyEnds, Records, Rewrites, Seats}
 use Rattle.model.proofs.Replies.{other}
 use Rattle.model.proofs.Order.{order-by, order-end}
 use Rattle.model.proofs.History.{chain, newest-is}
 use Rattle.model.proofs.LookUps.{found-exactly}
 use Rattle.model.proofs.Seats.{recorded-records, written-rewrites}
-use Rattle.model.proofs.Reached.{placed, seat, is-open, good-step}
-use Rattle.model.proofs.Desk.{standing, not-nobody, one-place, found, underway-at}
+use Rattle.model.proofs.Places.{placed, seat}
+use Rattle.model.proofs.Desk.{standing, not-nobody, found, underway-at}
+use Rattle.model.proofs.Refusals.{commit-cases}
 
 module _ {opening : ℕ} (s : State) (g : Good opening s) where
   module _ (n : ℕ) where
@@ -78,37 +70,20 @@ module _ {opening : ℕ} (s : State) (g : Good opening s) where
 
     -- "The answer is committed with its stamp, or aborted", and that too only ends its transaction
     pub broken-only : (r : Rule) → step s (Commit n) .reply ≡ aborted r → OnlyEnds s n (step s (Commit n) .state)
-    unfolding step checksOf finalOf
     broken-only r =
-        order-by P _ _ _ (λ h e. other e tt) (λ known.
-        order-by P (aborts s n (certified (s .log) (transaction s n))) _ _ (go known (certified (s .log) (transaction s n))) (λ h.
-        order-by P _ _ _ (λ h e. other e tt) (λ h.
-        order-by P _ _ _ (λ h e. other e tt) (λ h.
-        order-end P _ (λ e. other e tt)))))
-      where
-        P : Step → Type 0
-        P d = d .reply ≡ aborted r → OnlyEnds s n (d .state)
-
-        go : nobody s n ≡ false → (c : Certified) → aborts s n c .holds ≡ true → P (aborts s n c .step)
-        go known Whole h = absurd (false≢true h)
-        go known (Broken q) h = λ e. only-ends known
+        commit-cases (λ (d : Step). d .reply ≡ aborted r → OnlyEnds s n (d .state)) s n
+        (λ m e. other e tt)
+        (λ known q f e. only-ends known)
+        (λ h e. other e tt)
 
     -- a granted commit ends its transaction, and leaves every other place
     pub commit-ends : (m : ℕ) → step s (Commit n) .reply ≡ committed m → Becomes s n Ends (step s (Commit n) .state)
-    unfolding step checksOf finalOf
+    unfolding checksOf
     commit-ends m =
-        order-by P _ _ _ (λ h e. other e tt) (λ known.
-        order-by P (aborts s n (certified (s .log) (transaction s n))) _ _ (go (certified (s .log) (transaction s n))) (λ h.
-        order-by P _ _ _ (λ h e. other e tt) (λ h.
-        order-by P _ _ _ (λ h e. other e tt) (λ h.
-        order-end P _ (λ e. let b = only-ends known .ends in record { place = b .place; stands = b .stands; becomes = b .becomes; others = b .others; size = b .size })))))
-      where
-        P : Step → Type 0
-        P d = d .reply ≡ committed m → Becomes s n Ends (d .state)
-
-        go : (c : Certified) → aborts s n c .holds ≡ true → P (aborts s n c .step)
-        go Whole h = absurd (false≢true h)
-        go (Broken q) h = λ e. other e tt
+        commit-cases (λ (d : Step). d .reply ≡ committed m → Becomes s n Ends (d .state)) s n
+        (λ m e. other e tt)
+        (λ known q f e. other e tt)
+        (λ h e. elim h [ also known hs ↦ (let b = only-ends known .ends in record { place = b .place; stands = b .stands; becomes = b .becomes; others = b .others; size = b .size }) ])
 
     -- "The triple belongs to one transaction and may be tuned until its commit"
     pub tune-sets : (k1 k2 k3 : ℕ) → step s (Tune n k1 k2 k3) .reply ≡ done
@@ -238,45 +213,3 @@ pub own-read : {opening : ℕ} (s : State) → Good opening s → (n i k : ℕ) 
 unfolding step checksOf finalOf order
 own-read s g n i k v o key h =
     rw (not-nobody s g n o, le-ltb 63 k key, found s g n o, pending-value (atPlace s i) k v (underway-at s g n o .writes .once) h)
-
--- what a write put is among the writes
-put-in : {k : ℕ} {v : ℤ} {ws us : List pending.Write} → Puts k v ws us → In (record { key = k; value = v }) us
-put-in {k} {v} {ws} (again i h e) =
-    rw (getD-set-same ws i (record { key = k; value = v }) noWrite h) at (getD-in (set ws i (record { key = k; value = v })) i noWrite (rw (length-set ws i (record { key = k; value = v })) h))
-put-in {ws = ws} (anew n) = in-right ws here
-
--- and a read then answers it: "A second write of a key replaces the value"
-pub read-written : {opening : ℕ} (s : State) → Good opening s → (n k : ℕ) (v : ℤ) → k ≤ 63 → step s (Write n k v) .reply ≡ done
-    → step (step s (Write n k v) .state) (Read n k) .reply ≡ own v
-read-written s g n k v key e =
-    let b = write-puts s g n k v e .0 in
-    ap (λ (d : Step). d .reply) (own-read (step s (Write n k v) .state) (good-step s g (Write n k v)) n (b .place) k v
-    (record {
-      place = b .stands .place;
-      live = b .becomes .rest .live ∙ b .stands .live;
-      name = ap (λ (x : Stamp). x .0) (b .becomes .rest .name) ∙ b .stands .name;
-    })
-    key (put-in (b .becomes .writes)))
-
--- "an ended one frees its place, and the place is used again": a start is not refused for want of a place, and where every other place is taken
--- it takes this one
-module _ {opening : ℕ} (s after : State) (g : Good opening after) (n : ℕ) (b : Becomes s n Ends after) where
-  freed : atPlace after (b .place) .live ≡ false
-  freed = ap (λ (t : Transaction). t .live) (b .becomes)
-
-  pub place-free : ¬ AllOpen after
-  place-free h = true≢false (sym (h (b .place) (b .stands .place)) ∙ freed)
-
-  pub used-again : ((i : ℕ) → i < 32 → i ≢ b .place → atPlace s i .live ≡ true) → (m : ℕ) → step after Start .reply ≡ started m → OpenAt (step after Start .state) m (b .place)
-  used-again others m e =
-      let q = start-seats after g m e .0 in
-      let z : q .place ≡ b .place = go q (ℕ-discrete (q .place) (b .place)) in
-      record {
-        place = b .stands .place;
-        live = rw z at (ap (λ (t : Transaction). t .live) (q .taken));
-        name = rw z at (ap (λ (t : Transaction). t .name .0) (q .taken));
-      }
-    where
-      go : (q : Seats after m (step after Start .state)) → Dec (q .place ≡ b .place) → q .place ≡ b .place
-      go q (yes z) = z
-      go q (no h) = absurd (true≢false (sym (others (q .place) (q .within) h) ∙ ap (λ (t : Transaction). t .live) (sym (b .others (q .place) h)) ∙ q .free))

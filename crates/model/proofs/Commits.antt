@@ -3,7 +3,7 @@
 use Prim.Native.Nat.{ℕ, suc, _+_}
 use mathlib.Core.Path.{_≡_, refl, sym, _∙_, ap}
 use mathlib.Core.Logic.{_↔_}
-use mathlib.Core.Bool.{true, false, false≢true}
+use mathlib.Core.Bool.{false, false≢true}
 use lib.ListN.{length}
 use borrow.Author.Tests.{ltb-false, le-ltb, eqb-false, ne-eqb}
 use Rattle.lists.specs.Lists.{Every, none, also}
@@ -20,9 +20,10 @@ use Rattle.model.specs.Step.{Step, step, order, checksOf, finalOf, abort
 use Rattle.model.specs.Kept.{Grantable, FirstBroken}
 use Rattle.model.specs.Reached.{Good}
 use Rattle.model.proofs.Replies.{other}
-use Rattle.model.proofs.Order.{Fails, order-by, order-end, order-none}
+use Rattle.model.proofs.Order.{Fails, order-none}
 use Rattle.model.proofs.Rules.{certified-exactly, broken-exactly}
 use Rattle.model.proofs.Desk.{standing, not-nobody, found, of-found}
+use Rattle.model.proofs.Refusals.{commit-cases}
 
 -- where the search for a broken rule fails it found none
 no-abort : (s : State) (n : ℕ) (c : Certified) → aborts s n c .holds ≡ false → c ≡ Whole
@@ -35,20 +36,11 @@ abort-fails s n e = rw e
 module _ {opening : ℕ} (s : State) (g : Good opening s) (n : ℕ) where
   -- the answer "committed" is none of the checks'
   passed : (m : ℕ) → step s (Commit n) .reply ≡ committed m → Every Fails (checksOf s (Commit n)) × (m ≡ suc (s .clock))
-  unfolding step checksOf finalOf
   passed m =
-      order-by P _ _ _ (λ h e. other e tt) (λ known.
-      order-by P (aborts s n (certified (s .log) (transaction s n))) _ _ (go (certified (s .log) (transaction s n))) (λ kept.
-      order-by P _ _ _ (λ h e. other e tt) (λ room.
-      order-by P _ _ _ (λ h e. other e tt) (λ ticks.
-      order-end P _ (λ e. (also known (also kept (also room (also ticks none))), cc))))))
-    where
-      P : Step → Type 0
-      P d = d .reply ≡ committed m → Every Fails (checksOf s (Commit n)) × (m ≡ suc (s .clock))
-
-      go : (c : Certified) → aborts s n c .holds ≡ true → P (aborts s n c .step)
-      go Whole h = absurd (false≢true h)
-      go (Broken q) h = λ e. other e tt
+      commit-cases (λ (d : Step). d .reply ≡ committed m → Every Fails (checksOf s (Commit n)) × (m ≡ suc (s .clock))) s n
+      (λ q e. other e tt)
+      (λ known r q e. other e tt)
+      (λ h e. (h, cc))
 
   free : Every Fails (checksOf s (Commit n)) → Grantable s n
   unfolding checksOf
@@ -83,20 +75,11 @@ module _ {opening : ℕ} (s : State) (g : Good opening s) (n : ℕ) where
 
   -- the answer "aborted" is that of the rules, of an open transaction
   broke : (r : Rule) → step s (Commit n) .reply ≡ aborted r → (nobody s n ≡ false) × (certified (s .log) (transaction s n) ≡ Broken r)
-  unfolding step checksOf finalOf
   broke r =
-      order-by P _ _ _ (λ h e. other e tt) (λ known.
-      order-by P (aborts s n (certified (s .log) (transaction s n))) _ _ (go known (certified (s .log) (transaction s n)) refl) (λ kept.
-      order-by P _ _ _ (λ h e. other e tt) (λ room.
-      order-by P _ _ _ (λ h e. other e tt) (λ ticks.
-      order-end P _ (λ e. other e tt)))))
-    where
-      P : Step → Type 0
-      P d = d .reply ≡ aborted r → (nobody s n ≡ false) × (certified (s .log) (transaction s n) ≡ Broken r)
-
-      go : nobody s n ≡ false → (c : Certified) → certified (s .log) (transaction s n) ≡ c → aborts s n c .holds ≡ true → P (aborts s n c .step)
-      go known Whole q h = absurd (false≢true h)
-      go known (Broken x) q h = λ e. (known, q ∙ cc)
+      commit-cases (λ (d : Step). d .reply ≡ aborted r → (nobody s n ≡ false) × (certified (s .log) (transaction s n) ≡ Broken r)) s n
+      (λ q e. other e tt)
+      (λ known x q e. (known, q ∙ cc))
+      (λ h e. other e tt)
 
   breaks : (r : Rule) → nobody s n ≡ false → certified (s .log) (transaction s n) ≡ Broken r → step s (Commit n) .reply ≡ aborted r
   unfolding step checksOf finalOf order

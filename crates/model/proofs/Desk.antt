@@ -1,22 +1,20 @@
 -- The search of the desk against its places: what is found under a name is the one open transaction that stands at a place under that name, and
 -- the tests of a call's checks against the rows of document 01's table. Good states.
-use Prim.Native.Nat.{ℕ, suc, _≤_, _<_}
+use Prim.Native.Nat.{ℕ, _≤_, _<_}
 use native.Mathlib.Omega.{arith}
 use mathlib.Core.Path.{_≡_, refl, sym, _∙_, ap}
-use mathlib.Core.Logic.{_↔_, _≢_}
-use mathlib.Core.Bool.{Bool, true, false, not, true≢false, false≢true, _&&_, cond}
-use mathlib.Core.List.{List, [], _∷_, map}
-use lib.Dec.{eqb, leb, ltb}
+use mathlib.Core.Logic.{_↔_}
+use mathlib.Core.Bool.{Bool, true, false, cond, not, true≢false, false≢true}
+use mathlib.Core.List.{List}
+use lib.Dec.{leb, ltb}
 use lib.ListN.{length, getD, set, length-take, length-map}
-use borrow.Author.Tests.{leb-true, leb-false, le-leb, ltb-true, ltb-false, lt-ltb, le-ltb, eqb-true, eqb-false, eq-eqb, ne-eqb}
-use Rattle.lists.specs.Lists.{find, Every, none, also}
-use Rattle.lists.specs.Members.{In, here, below}
+use borrow.Author.Tests.{leb-true, leb-false, le-leb, ltb-true, ltb-false, lt-ltb, eqb-true, eq-eqb}
+use Rattle.lists.specs.Lists.{find, Every}
 use Rattle.lists.proofs.Find.{find-le, find-holds}
-use Rattle.lists.proofs.Every.{every-at, at-every, every-map, find-none, none-found}
+use Rattle.lists.proofs.Every.{every-at, at-every, find-none, none-found}
 use Rattle.lists.proofs.Members.{every-in, in-map, getD-in}
 use Rattle.transaction.specs.declared.Write.{Write}
 use Rattle.transaction.specs.declared.Transaction.{Transaction}
-use Rattle.transaction.specs.declared.Pending.{Pending}
 use Rattle.transaction.specs.declared.Pending.the-variants.{Value, Nothing}
 use Rattle.transaction.specs.Transaction.{isKey, wroteAt, pendingOf, readsOf, writesOf, noWrite}
 use Rattle.model.specs.Log.{Entry}
@@ -26,7 +24,7 @@ use Rattle.model.specs.Step.{hasWritten, readsFull, writesFull}
 use Rattle.model.specs.Reached.{Good, Seated, Underway, keysOf}
 use Rattle.model.specs.Checks.{NoneOpen, AllOpen, Wrote, SixteenReads, SixteenOthers}
 use Rattle.model.proofs.Seats.{keys-other}
-use Rattle.model.proofs.Reached.{placed, is-open}
+use Rattle.model.proofs.Places.{placed, is-open}
 
 module _ {opening : ℕ} (s : State) (g : Good opening s) where
   module _ (n : ℕ) where

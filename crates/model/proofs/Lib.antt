@@ -7,7 +7,7 @@ pub mod Made
 pub mod Stands
 pub mod LookUps
 pub mod Seats
-pub mod Reached
+pub mod Places
 pub mod Desk
 pub mod Refusals
 pub mod Changes
@@ -16,6 +16,8 @@ pub mod Clock
 pub mod Signed
 pub mod Snapshot
 pub mod Granted
+pub mod Reached
+pub mod Follows
 pub mod Distances
 pub mod Uncharged
 pub mod Sent

@@ -1,13 +1,11 @@
 -- Demand 1: "A bad one gets the number that document 01's table and its order of checks name, and no other call gets one; state and lent
 -- buffers stay as they were."
 use Prim.Native.Nat.{ℕ}
-use native.Mathlib.Omega.{arith}
 use mathlib.Core.List.{List}
-use mathlib.Core.Path.{_≡_, refl, sym, _∙_}
+use mathlib.Core.Path.{_≡_, refl}
 use mathlib.Core.Logic.{_↔_}
 use mathlib.Core.Bool.{Bool, true, false, not, _&&_, true≢false, false≢true}
 use lib.Dec.{eqb}
-use lib.ListN.{length}
 use borrow.Author.Tests.{leb-true, le-leb, ltb-true, lt-ltb, eqb-true, eq-eqb}
 use Rattle.lists.specs.Lists.{Every, none, also}
 use Rattle.units.specs.declared.Found.{Found}
@@ -19,12 +17,11 @@ use Rattle.transaction.specs.declared.Transaction.{Transaction}
 use Rattle.transaction.specs.declared.Pending.{Pending}
 use Rattle.transaction.specs.declared.Pending.the-variants.{Value, Nothing}
 use Rattle.transaction.specs.Transaction.{pendingOf}
-use Rattle.model.specs.Log.{lookUp, madeAt}
+use Rattle.model.specs.Log.{lookUp}
 use Rattle.model.specs.Rules.{certified}
 use Rattle.model.specs.State.{State, nobody, transaction}
-use Rattle.model.specs.Open.{Of}
 use Rattle.model.specs.Call.{Call, Start, Read, Note, Write, Tune, Distance, Abort, Commit, Message, Newest, refused, aborted}
-use Rattle.model.specs.Step.{Step, Check, step, order, checksOf, finalOf, answers, aborts, isAbsent, notes, reads, ends, hasWritten, readsFull}
+use Rattle.model.specs.Step.{Step, Check, step, order, checksOf, finalOf, answers, aborts, commits, isAbsent, notes, reads, ends}
 use Rattle.model.specs.Kept.{Kept}
 use Rattle.model.specs.Reached.{Good}
 use Rattle.model.specs.Checks.{lineOf, RefusedBy, Wrote, SixteenReads, SixteenOthers, NotRecorded, TooLong}
@@ -33,7 +30,7 @@ use Rattle.model.proofs.Order.{Fails, Fits, over, refuses, breaks, refu
 use Rattle.model.proofs.Rules.{certified-exactly}
 use Rattle.model.proofs.Made.{none-made}
 use Rattle.model.proofs.LookUps.{absent-tests}
-use Rattle.model.proofs.Reached.{is-open, seat}
+use Rattle.model.proofs.Places.{is-open, seat}
 use Rattle.model.proofs.Desk.{none-open, of-found, all-open, wrote-tests, sixteen-reads, sixteen-others}
 
 -- a test with its row, over any statement that says the same
@@ -187,3 +184,19 @@ final-stays s (Newest k) n e = other e tt
 pub refused-stays : (s : State) (c : Call) (n : ℕ) → step s c .reply ≡ refused n → step s c .state ≡ s
 refused-stays s c n =
     step-cases (λ (d : Step). d .reply ≡ refused n → d .state ≡ s) s c (λ m e. refl) (λ m r e. other e tt) (final-stays s c n)
+
+-- a commit is a refusal, an abort by the first broken rule, or the step where no check holds
+pub commit-cases : (P : Step → Type 0) (s : State) (n : ℕ) → ((m : ℕ) → P (answers s (refused m)))
+    → (nobody s n ≡ false → (r : Rule) → certified (s .log) (transaction s n) ≡ Broken r → P (record { reply = aborted r; state = ends s n }))
+    → (Every Fails (checksOf s (Commit n)) → P (commits s n)) → P (step s (Commit n))
+unfolding step checksOf finalOf
+commit-cases P s n not-taken broke granted =
+    order-by P _ _ _ (λ h. not-taken 1) (λ known.
+    order-by P (aborts s n (certified (s .log) (transaction s n))) _ _ (go known (certified (s .log) (transaction s n)) refl) (λ kept.
+    order-by P _ _ _ (λ h. not-taken 6) (λ room.
+    order-by P _ _ _ (λ h. not-taken 5) (λ ticks.
+    order-end P _ (granted (also known (also kept (also room (also ticks none)))))))))
+  where
+    go : nobody s n ≡ false → (c : Certified) → certified (s .log) (transaction s n) ≡ c → aborts s n c .holds ≡ true → P (aborts s n c .step)
+    go known Whole q h = absurd (false≢true h)
+    go known (Broken r) q h = broke known r q

@@ -8,7 +8,7 @@ use mathlib.Core.Bool.{Bool, true, false, false≢true}
 use mathlib.Core.List.{List, [], _∷_, _++_}
 use lib.Dec.{ltb}
 use lib.IntN.{ℤ}
-use lib.ListN.{length, getD, take, set, length-set, length-take, length-append}
+use lib.ListN.{length, getD, take, set, length-set, length-take}
 use lib.Seq.{take-suc-set, take-set-lt, map-set-same}
 use borrow.Author.Tests.{lt-ltb, ltb-true, ltb-false, eqb-true, eqb-false}
 use Rattle.lists.specs.Lists.{Every, none, also}

@@ -1,7 +1,7 @@
 -- The rules of RVSI, stated twice: as document 01 states them, for every read, pair and written key; and as the search for the first
 -- that is broken, in the order BV, FV, SV, WC.
 use Prim.Native.Nat.{ℕ, _≤_}
-use mathlib.Core.Bool.{Bool, true, false, cond, not}
+use mathlib.Core.Bool.{Bool, cond, not}
 use mathlib.Core.List.{List}
 use mathlib.Core.Path.{_≡_}
 use lib.Dec.{ltb}

@@ -3,14 +3,11 @@ use Prim.Native.Nat.{ℕ, suc, _+_}
 use mathlib.Core.Bool.{Bool, true, false, cond, _&&_, not}
 use mathlib.Core.List.{List, [], _∷_}
 use lib.Dec.{eqb, leb, ltb}
-use lib.IntN.{ℤ}
 use lib.ListN.{length, getD, take, set}
-use Rattle.lists.specs.Lists.{find}
 use Rattle.units.specs.Bounds.{triple}
 use Rattle.units.specs.declared.Version.{Version}
 use Rattle.units.specs.declared.Found.{Found}
 use Rattle.units.specs.declared.Found.the-variants.{At, Absent}
-use Rattle.units.specs.declared.rule.Rule.{Rule}
 use Rattle.units.specs.declared.rule.Certified.{Certified}
 use Rattle.units.specs.declared.rule.Certified.the-variants.{Whole, Broken}
 use Rattle.transaction.specs.declared.Mark.{Mark}
@@ -18,7 +15,7 @@ use Rattle.transaction.specs.declared.Transaction.{Transaction}
 use Rattle.transaction.specs.declared.Pending.{Pending}
 use Rattle.transaction.specs.declared.Pending.the-variants.{Value, Nothing}
 use Rattle.transaction.specs.Transaction.{fresh, tuned, ended, recorded, written, wroteAt, pendingOf, readsOf, writesOf, noMark}
-use Rattle.model.specs.Log.{Entry, newest, lookUp, installed, madeAt}
+use Rattle.model.specs.Log.{newest, lookUp, installed, madeAt}
 use Rattle.model.specs.Rules.{distance, certified}
 use Rattle.model.specs.State.{State, nobody, transaction, freePlace, withTransaction}
 use Rattle.model.specs.Call.{Call, Start, Read, Note, Write, Tune, Distance, Abort, Commit, Message, Newest, Reply, refused, started, version, own, done, apartBy, committed, aborted, made, madeBy}
