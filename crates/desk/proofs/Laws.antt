@@ -2,7 +2,7 @@
 use Prim.Native.Nat.{ℕ, suc, _+_, _≤_, _<_, min}
 use native.Mathlib.Omega.{arith}
 use native.Mathlib.Numerals.{add-one}
-use mathlib.Core.Path.{_≡_, refl, sym, _∙_, ap}
+use mathlib.Core.Path.{_≡_, refl, sym, _∙_, ap, subst}
 use mathlib.Core.Bool.{Bool, true, false, cond}
 use mathlib.Core.List.{List}
 use borrow.Author.Tests.{le-leb, lt-leb, lt-ltb, le-ltb, eq-eqb, ne-eqb, eqb-true, eqb-false}
@@ -10,7 +10,9 @@ use lib.Dec.{leb, ltb, eqb}
 use lib.IntN.{ℤ}
 use lib.ListN.{getD, set}
 use Rattle.units.specs.Refusal.{numberOf}
-use Rattle.units.specs.Bounds.{triple, bounded}
+use Rattle.units.specs.Bounds as triples
+use Rattle.units.specs.Bounds.{triple, bounded, tripleReply}
+use Rattle.units.proofs.Numbers.{triple-inj}
 use Rattle.units.specs.declared.Bounds.{Bounds}
 use Rattle.units.specs.declared.Triple.{Triple}
 use Rattle.units.specs.declared.Triple.the-variants.{Taken, Refused}
@@ -72,14 +74,14 @@ module _ (m : Master) (log : List Entry) where
   start-goes h e = rw (lt-leb 32 _ h, ne-eqb _ _ e, add-one)
 
 -- the constructor of a bound triple refuses exactly k1 = 0
-module _ (k1 k2 k3 : ℕ) (r : Triple) (e : r ≡ bounded k1 k2 k3) where
+module _ (k1 k2 k3 : ℕ) (r : Triple) (e : tripleReply r ≡ bounded k1 k2 k3) where
   by-cases : (P : Triple → Type 0) → (k1 ≡ 0 → P (Refused NoSuchBoundOrPlace)) → ((k1 ≡ 0 → ⊥) → P (Taken (triple k1 k2 k3))) → P r
   unfolding bounded
-  by-cases P zero more = rw e (go (eqb k1 0) refl)
+  by-cases P zero more = go (eqb k1 0) refl e
     where
-      go : (t : Bool) → eqb k1 0 ≡ t → P (cond t (Refused NoSuchBoundOrPlace) (Taken (triple k1 k2 k3)))
-      go true h = zero (eqb-true k1 0 h)
-      go false h = more (eqb-false k1 0 h)
+      go : (t : Bool) → eqb k1 0 ≡ t → tripleReply r ≡ cond t (triples.refused 9) (triples.taken (triple k1 k2 k3)) → P r
+      go true h q = subst P (triple-inj (Refused NoSuchBoundOrPlace) r (sym q)) (zero (eqb-true k1 0 h))
+      go false h q = subst P (triple-inj (Taken (triple k1 k2 k3)) r (sym q)) (more (eqb-false k1 0 h))
 
   pub bounds-refused : (f : Refusal) → r ≡ Refused f → k1 ≡ 0
   bounds-refused f = by-cases (λ (t : Triple). t ≡ Refused f → k1 ≡ 0) (λ h _. h) (λ h q. let z : _≡_ {A = ℕ} 0 1 = cc in absurd (omega arith))
