@@ -2,17 +2,18 @@
 -- steps, in every state that a session reaches.
 use Prim.Native.Nat.{ℕ, suc, _≤_, _<_}
 use native.Mathlib.Omega.{arith}
-use mathlib.Core.Path.{_≡_, refl, sym, _∙_, ap}
-use mathlib.Core.Bool.{Bool, true, false, not, _&&_, true≢false, false≢true}
+use mathlib.Core.Path.{_≡_, refl, sym, _∙_, ap, subst}
+use mathlib.Core.Bool.{Bool, true, false, cond, not, _&&_, true≢false, false≢true}
 use mathlib.Core.List.{List, _∷_}
 use lib.IntN.{ℤ}
 use lib.ListN.{length, getD, length-set}
 use lib.Seq.{getD-set-same, getD-set-other}
-use borrow.Author.Tests.{leb-false, le-ltb, lt-ltb, eq-eqb, ne-eqb}
+use lib.Dec.{ltb}
+use borrow.Author.Tests.{leb-false, ltb-true, le-ltb, lt-ltb, eq-eqb, eqb-true, ne-eqb}
 use Rattle.lists.specs.Lists.{find, also}
 use Rattle.lists.specs.Members.{In, here, below, Distinct, apart}
 use Rattle.lists.proofs.Find.{find-holds, find-first}
-use Rattle.lists.proofs.Members.{every-in, in-map}
+use Rattle.lists.proofs.Members.{every-in, in-map, getD-in}
 use Rattle.units.specs.Bounds.{triple}
 use Rattle.units.specs.declared.Version.{Version}
 use Rattle.units.specs.declared.Found.{Found}
@@ -25,8 +26,8 @@ use Rattle.transaction.specs.declared.Pending.the-variants.{Value, Nothing}
 use Rattle.transaction.specs.Transaction.{fresh, tuned, ended, recorded, written, wroteAt, isKey, pendingOf, writesOf, noWrite}
 use Rattle.model.specs.Log.{newest, lookUp}
 use Rattle.model.specs.State.{State, noTransaction, atPlace, placeOf, nobody, transaction, freePlace, withTransaction}
-use Rattle.model.specs.Open.{OpenAt}
-use Rattle.model.specs.Call.{Start, Read, Note, Write, Tune, Abort, Commit, started, version, own, done, committed, aborted}
+use Rattle.model.specs.Open.{OpenAt, Of}
+use Rattle.model.specs.Call.{Start, Read, Note, Write, Tune, Abort, Commit, Newest, started, version, own, done, committed, aborted, madeBy}
 use Rattle.model.specs.Step.{Step, step, order, checksOf, finalOf, answers, marked, reads, notes, readsFull, hasWritten, writesFull, ends}
 use Rattle.model.specs.Reached.{Good, keysOf, NewestOf, Numbered}
 use Rattle.model.specs.Changes.{Becomes, Unmoved, Ends, OnlyEnds, Records, Rewrites, Seats}
@@ -36,8 +37,28 @@ use Rattle.model.proofs.History.{chain, newest-is}
 use Rattle.model.proofs.LookUps.{found-exactly}
 use Rattle.model.proofs.Seats.{recorded-records, written-rewrites}
 use Rattle.model.proofs.Places.{placed, seat}
-use Rattle.model.proofs.Desk.{standing, not-nobody, found, underway-at}
+use Rattle.model.proofs.Desk.{standing, not-nobody, found, of-found, underway-at}
 use Rattle.model.proofs.Refusals.{commit-cases}
+
+-- a pending value is that of a written key
+value-written : (t : Transaction) (k : ℕ) (v : ℤ) → pendingOf t k ≡ Value v → In (record { key = k; value = v }) (writesOf t)
+unfolding pendingOf wroteAt
+value-written t k v = go (ltb (find (isKey k) (writesOf t)) (length (writesOf t))) refl
+  where
+    wrote : ℕ → ℤ → pending.Write
+    wrote x z = record { key = x; value = z }
+
+    at : pending.Write
+    at = getD (writesOf t) (find (isKey k) (writesOf t)) noWrite
+
+    go : (b : Bool) → ltb (find (isKey k) (writesOf t)) (length (writesOf t)) ≡ b → cond b (Value (at .value)) Nothing ≡ Value v → In (record { key = k; value = v }) (writesOf t)
+    go true h e =
+        let l = ltb-true (find (isKey k) (writesOf t)) (length (writesOf t)) h in
+        let z : at .value ≡ v = cc in
+        let y : at .key ≡ k = eqb-true (at .key) k (find-holds (isKey k) (writesOf t) noWrite l) in
+        let w : at ≡ record { key = k; value = v } = ap (λ (x : ℕ). wrote x (at .value)) y ∙ ap (wrote k) z in
+        subst (λ (w : pending.Write). In w (writesOf t)) w (getD-in (writesOf t) (find (isKey k) (writesOf t)) noWrite l)
+    go false h e = let z : _≡_ {A = ℕ} 0 1 = cc in absurd (omega arith)
 
 module _ {opening : ℕ} (s : State) (g : Good opening s) where
   module _ (n : ℕ) where
@@ -126,6 +147,26 @@ module _ {opening : ℕ} (s : State) (g : Good opening s) where
               let z : newest (s .log) k ≡ v = cc in
               (rw (← z) (newest-is (chain (g .history)) k), rw (← z) (records (newest (s .log) k) known full), still (recorded (transaction s n) (marked k (newest (s .log) k))))
 
+      -- an own value is answered only of a key that the transaction has written, and records nothing
+      pub own-written : (v : ℤ) → step s (Read n k) .reply ≡ own v
+          → Of s n (λ (t : Transaction). In (record { key = k; value = v }) (writesOf t)) × (step s (Read n k) .state ≡ s)
+      unfolding step checksOf finalOf
+      own-written v =
+          order-by P _ _ _ (λ h e. other e tt) (λ known.
+          order-by P _ _ _ (λ h e. other e tt) (λ key.
+          order-by P _ _ _ (λ h e. other e tt) (λ full.
+          order-end P _ (go known (pendingOf (transaction s n) k) refl))))
+        where
+          Q : Transaction → Type 0
+          Q t = In (record { key = k; value = v }) (writesOf t)
+
+          P : Step → Type 0
+          P d = d .reply ≡ own v → Of s n Q × (d .state ≡ s)
+
+          go : nobody s n ≡ false → (p : Pending) → pendingOf (transaction s n) k ≡ p → P (reads s n k p)
+          go known (Value w) q e = let z : w ≡ v = cc in (of-found s g n known Q .0 (rw (← z) (value-written (transaction s n) k w q)), refl)
+          go known Nothing q e = other e tt
+
       -- "A note records a version .. by key and ordinal; the master looks it up and believes nothing else, and answers that version"
       pub note-records : (o : ℕ) (v : Version) → step s (Note n k o) .reply ≡ version v
           → Numbered (s .log) k o v × Becomes s n (Records (marked k v)) (step s (Note n k o) .state) × Unmoved s (step s (Note n k o) .state)
@@ -213,3 +254,8 @@ pub own-read : {opening : ℕ} (s : State) → Good opening s → (n i k : ℕ) 
 unfolding step checksOf finalOf order
 own-read s g n i k v o key h =
     rw (not-nobody s g n o, le-ltb 63 k key, found s g n o, pending-value (atPlace s i) k v (underway-at s g n o .writes .once) h)
+
+-- "For a key it also answers the stamp of the commit that made the newest version (0 for a start version)"
+pub newest-answered : {opening : ℕ} (s : State) → Good opening s → (k : ℕ) → k ≤ 63 → step s (Newest k) ≡ answers s (madeBy (newest (s .log) k .stamp .0)) × NewestOf (s .log) k (newest (s .log) k)
+unfolding step checksOf finalOf order
+newest-answered s g k key = (rw (le-ltb 63 k key), newest-is (chain (g .history)) k)

@@ -10,6 +10,7 @@ pub mod Seats
 pub mod Places
 pub mod Desk
 pub mod Refusals
+pub mod Answers
 pub mod Changes
 pub mod Commits
 pub mod Clock
