@@ -7,7 +7,7 @@ use mathlib.Core.Logic.{_↔_}
 use mathlib.Core.Bool.{Bool, true, false, cond, not, true≢false, false≢true}
 use mathlib.Core.List.{List}
 use lib.Dec.{leb, ltb}
-use lib.ListN.{length, getD, set, length-take, length-map}
+use lib.ListN.{length, getD, length-take, length-map}
 use borrow.Author.Tests.{leb-true, leb-false, le-leb, ltb-true, ltb-false, lt-ltb, eqb-true, eq-eqb}
 use Rattle.lists.specs.Lists.{find, Every}
 use Rattle.lists.proofs.Find.{find-le, find-holds}
@@ -18,7 +18,7 @@ use Rattle.transaction.specs.declared.Transaction.{Transaction}
 use Rattle.transaction.specs.declared.Pending.the-variants.{Value, Nothing}
 use Rattle.transaction.specs.Transaction.{isKey, wroteAt, pendingOf, readsOf, writesOf, noWrite}
 use Rattle.model.specs.Log.{Entry}
-use Rattle.model.specs.State.{State, noTransaction, atPlace, goesBy, placeOf, nobody, transaction, freePlace, withTransaction}
+use Rattle.model.specs.State.{State, noTransaction, atPlace, goesBy, placeOf, nobody, transaction, freePlace}
 use Rattle.model.specs.Open.{OpenAt, Of}
 use Rattle.model.specs.Step.{hasWritten, readsFull, writesFull}
 use Rattle.model.specs.Reached.{Good, Seated, Underway, keysOf}
@@ -67,12 +67,9 @@ module _ {opening : ℕ} (s : State) (g : Good opening s) where
       λ o. rw (one-place (o .stands)) (o .has),
     )
 
-    -- so what the calls do to the transaction found is done at that place
+    -- so it is the transaction of that place
     pub found : {i : ℕ} → OpenAt s n i → transaction s n ≡ atPlace s i
     found o = ap (atPlace s) (one-place o)
-
-    pub placed-at : {i : ℕ} → OpenAt s n i → (t : Transaction) → withTransaction s n t .place ≡ set (s .place) i t
-    placed-at o t = ap (λ (i : ℕ). set (s .place) i t) (one-place o)
 
     pub seated-at : {i : ℕ} → OpenAt s n i → Seated opening (s .clock) (s .log) (atPlace s i)
     seated-at {i} o = every-at noTransaction (g .seated) i (let h = o .place in omega (arith, g .desk))
