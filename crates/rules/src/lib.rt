@@ -10,11 +10,12 @@ ghost use lib.Signed.{ltZ, leZ};
 ghost use Rattle.lists.specs.Lists.{find};
 ghost use Rattle.transaction.specs.Transaction.{readsOf, writesOf, noWrite};
 ghost use Rattle.model.specs.Rules.{distance, overtaken, certified};
-ghost use Rattle.columns.specs.Columns.{logOf, used};
+ghost use Rattle.memory.specs.Memory.{logOf};
 ghost use Rattle.rules.specs.Tests.{fails, latest};
 use counts::changed_after;
 use counts::count_between;
 use counts::count_up_to;
+use memory::WORDS;
 use transaction::Mark;
 use transaction::Transaction;
 use units::Certified;
@@ -32,44 +33,33 @@ enum Test {
 }
 
 // "O_x(s) − O_x(c_j), with its sign", of a read by a transaction started at `start`.
-pub fn distance_of(
-    keys: &[u8; limits::LOG],
-    stamps: &[u32; limits::LOG],
-    length: usize,
-    start: Stamp,
-    read: Mark,
-) -> i64
-    ensures { λ r. ⌜ ((o : List ℕ) (v : List ℤ) → r ≡ distance (logOf (now (keys .entry)) o (now (stamps .entry)) v (used length)) (start .0) read) ⌝ }
+pub fn distance_of(memory: &[u32; WORDS], start: Stamp, read: Mark) -> i64
+    ensures { λ r. ⌜ r ≡ distance (logOf (now (memory .entry))) (start .0) read ⌝ }
 {
-    let at_start = count_up_to(keys, stamps, length, read.key, start);
-    let at_read = count_up_to(keys, stamps, length, read.key, read.stamp);
+    let at_start = count_up_to(memory, read.key, start);
+    let at_read = count_up_to(memory, read.key, read.stamp);
     difference(at_start, at_read)
 }
 
 // The first broken rule, with the place of the read or written key that broke it.
-pub fn certify(
-    keys: &[u8; limits::LOG],
-    stamps: &[u32; limits::LOG],
-    length: usize,
-    t: Transaction,
-) -> Certified
-    ensures { λ r. ⌜ ((o : List ℕ) (v : List ℤ) → r ≡ certified (logOf (now (keys .entry)) o (now (stamps .entry)) v (used length)) t) ⌝ }
+pub fn certify(memory: &[u32; WORDS], t: Transaction) -> Certified
+    ensures { λ r. ⌜ r ≡ certified (logOf (now (memory .entry))) t ⌝ }
 {
     let reads = t.reads_in();
-    let stale = first(Test::Stale, keys, stamps, length, t);
+    let stale = first(Test::Stale, memory, t);
     if stale < reads {
         return Certified::Broken(Rule::BV(stale));
     }
-    let early = first(Test::Early, keys, stamps, length, t);
+    let early = first(Test::Early, memory, t);
     if early < reads {
         return Certified::Broken(Rule::FV(early));
     }
-    let x = first(Test::Torn(latest(t)), keys, stamps, length, t);
+    let x = first(Test::Torn(latest(t)), memory, t);
     if x < reads {
-        let y = first(Test::Apart(t.read_at(x)), keys, stamps, length, t);
+        let y = first(Test::Apart(t.read_at(x)), memory, t);
         return Certified::Broken(Rule::SV(x, y));
     }
-    let overtaken = first_overtaken(keys, stamps, length, t);
+    let overtaken = first_overtaken(memory, t);
     if overtaken < t.writes_in() {
         return Certified::Broken(Rule::WC(overtaken));
     }
@@ -77,7 +67,7 @@ pub fn certify(
 }
 
 // The written key at a place, or 0.
-fn key_at(t: Transaction, i: usize) -> u8
+fn key_at(t: Transaction, i: usize) -> u32
     ensures { λ r. ⌜ r ≡ getD (writesOf t) i noWrite .key ⌝ }
 {
     if i < t.writes_in() {
@@ -87,19 +77,13 @@ fn key_at(t: Transaction, i: usize) -> u8
 }
 
 // The first recorded read that fails a test, or how many there are.
-fn first(
-    test: Test,
-    keys: &[u8; limits::LOG],
-    stamps: &[u32; limits::LOG],
-    length: usize,
-    t: Transaction,
-) -> usize
-    ensures { λ r. ⌜ ((o : List ℕ) (v : List ℤ) → r ≡ find (fails test (logOf (now (keys .entry)) o (now (stamps .entry)) v (used length)) t) (readsOf t)) ⌝ }
+fn first(test: Test, memory: &[u32; WORDS], t: Transaction) -> usize
+    ensures { λ r. ⌜ r ≡ find (fails test (logOf (now (memory .entry))) t) (readsOf t) ⌝ }
 {
     let end = t.reads_in();
     let mut i = 0;
     while i < end {
-        if fails(test, keys, stamps, length, t, t.read_at(i)) {
+        if fails(test, memory, t, t.read_at(i)) {
             return i;
         }
         i += 1;
@@ -108,18 +92,13 @@ fn first(
 }
 
 // The first written key that another transaction has changed since the start, or how many there are.
-fn first_overtaken(
-    keys: &[u8; limits::LOG],
-    stamps: &[u32; limits::LOG],
-    length: usize,
-    t: Transaction,
-) -> usize
-    ensures { λ r. ⌜ ((o : List ℕ) (v : List ℤ) → r ≡ find (overtaken (logOf (now (keys .entry)) o (now (stamps .entry)) v (used length)) t) (writesOf t)) ⌝ }
+fn first_overtaken(memory: &[u32; WORDS], t: Transaction) -> usize
+    ensures { λ r. ⌜ r ≡ find (overtaken (logOf (now (memory .entry))) t) (writesOf t) ⌝ }
 {
     let end = t.writes_in();
     let mut i = 0;
     while i < end {
-        if changed_after(keys, stamps, length, key_at(t, i), t.name) {
+        if changed_after(memory, key_at(t, i), t.name) {
             return i;
         }
         i += 1;
@@ -127,32 +106,25 @@ fn first_overtaken(
     i
 }
 
-fn fails(
-    test: Test,
-    keys: &[u8; limits::LOG],
-    stamps: &[u32; limits::LOG],
-    length: usize,
-    t: Transaction,
-    read: Mark,
-) -> bool
-    ensures { λ r. ⌜ ((o : List ℕ) (v : List ℤ) → r ≡ fails test (logOf (now (keys .entry)) o (now (stamps .entry)) v (used length)) t read) ⌝ }
+fn fails(test: Test, memory: &[u32; WORDS], t: Transaction, read: Mark) -> bool
+    ensures { λ r. ⌜ r ≡ fails test (logOf (now (memory .entry))) t read ⌝ }
 {
     let b = t.bounds;
     match test {
         Test::Stale => {
-            let d = distance_of(keys, stamps, length, t.name, read);
+            let d = distance_of(memory, t.name, read);
             is_stale(d, b.k1)
         }
         Test::Early => {
-            let d = distance_of(keys, stamps, length, t.name, read);
+            let d = distance_of(memory, t.name, read);
             is_early(d, b.k2)
         }
         Test::Torn(last) => {
-            let n = count_between(keys, stamps, length, read.key, read.stamp, last);
+            let n = count_between(memory, read.key, read.stamp, last);
             wide(b.k3) < n
         }
         Test::Apart(x) => {
-            let n = count_between(keys, stamps, length, x.key, x.stamp, read.stamp);
+            let n = count_between(memory, x.key, x.stamp, read.stamp);
             wide(b.k3) < n
         }
     }

@@ -11,14 +11,14 @@ use units::limits;
 
 // A recorded read: the version of a key that was read, by its ordinal and its stamp.
 pub struct Mark {
-    pub key: u8,
+    pub key: u32,
     pub ordinal: Ordinal,
     pub stamp: Stamp,
 }
 
 // A written key and its pending value.
 pub struct Write {
-    pub key: u8,
+    pub key: u32,
     pub value: i32,
 }
 
@@ -29,9 +29,9 @@ pub struct Transaction {
     pub live: bool,
     pub bounds: Bounds,
     pub reads: [Mark; limits::READS],
-    pub recorded: usize,
+    pub recorded: u32,
     pub writes: [Write; limits::WRITES],
-    pub written: usize,
+    pub written: u32,
 }
 
 // The transaction's own pending value of a key.
@@ -79,10 +79,10 @@ impl Transaction {
     pub fn record(mut self, mark: Mark) -> Transaction
         ensures { λ r. ⌜ r ≡ recorded self mark ⌝ }
     {
-        let n = self.recorded;
+        let n = self.recorded as usize;
         if n < limits::READS {
             self.reads[n] = mark;
-            self.recorded = n + 1;
+            self.recorded = (n + 1) as u32;
             return self;
         }
         self
@@ -92,7 +92,7 @@ impl Transaction {
     pub fn reads_in(self) -> usize
         ensures { λ r. ⌜ r ≡ length (readsOf self) ⌝ }
     {
-        at_most(self.recorded, limits::READS)
+        at_most(self.recorded as usize, limits::READS)
     }
 
     // The read at a place; the read of nothing where none is recorded there.
@@ -113,11 +113,11 @@ impl Transaction {
     pub fn writes_in(self) -> usize
         ensures { λ r. ⌜ r ≡ length (writesOf self) ⌝ }
     {
-        at_most(self.written, limits::WRITES)
+        at_most(self.written as usize, limits::WRITES)
     }
 
     // The place of a key among those written, or how many there are.
-    pub fn wrote_at(self, key: u8) -> usize
+    pub fn wrote_at(self, key: u32) -> usize
         ensures { λ r. ⌜ r ≡ wroteAt self key ⌝ }
     {
         let end = self.writes_in();
@@ -132,19 +132,19 @@ impl Transaction {
     }
 
     // A second write of a key replaces its value; a 17th key is not written.
-    pub fn write(mut self, key: u8, value: i32) -> Transaction
+    pub fn write(mut self, key: u32, value: i32) -> Transaction
         ensures { λ r. ⌜ r ≡ written self key value ⌝ }
     {
         let i = self.wrote_at(key);
         if i < limits::WRITES {
             self.writes[i] = Write { key, value };
-            self.written = at_least(self.written, i + 1);
+            self.written = at_least(self.written, (i + 1) as u32);
             return self;
         }
         self
     }
 
-    pub fn pending(self, key: u8) -> Pending
+    pub fn pending(self, key: u32) -> Pending
         ensures { λ r. ⌜ r ≡ pendingOf self key ⌝ }
     {
         let i = self.wrote_at(key);
@@ -156,7 +156,7 @@ impl Transaction {
     }
 }
 
-fn at_least(n: usize, least: usize) -> usize
+fn at_least(n: u32, least: u32) -> u32
     ensures { λ r. ⌜ r ≡ max n least ⌝ }
 {
     if n < least { least } else { n }

@@ -5,7 +5,6 @@ use mathlib.Core.Path.{_≡_, refl, _∙_}
 use mathlib.Core.Bool.{Bool, true, false}
 use mathlib.Core.List.{List, [], _∷_, _++_, map, map-append}
 use lib.Dec.{ltb}
-use lib.IntN.{ℤ}
 use lib.ListN.{length, getD, take, length-append, length-map, length-take}
 use lib.Seq.{take-all, take-append-le}
 use borrow.Author.Tests.{ltb-true, ltb-false, le-ltb, eq-eqb, ne-eqb}
@@ -15,8 +14,8 @@ use Rattle.units.proofs.Batches.{batch-items, batch-added}
 use Rattle.units.specs.declared.Item.{Item}
 use Rattle.units.specs.declared.Batch.{Batch}
 use Rattle.model.specs.Log.{Entry, madeAt}
-use Rattle.columns.specs.Columns.{entryAt, logOf}
-use Rattle.columns.proofs.Log.{log-more}
+use Rattle.memory.specs.Memory.{entryAt, entries}
+use Rattle.versions.proofs.Laws.{log-more}
 use Rattle.versions.specs.Batch.{itemOf, batchOf}
 
 -- the items that count are the first sixteen versions
@@ -48,11 +47,11 @@ module _ (es : List Entry) (e : Entry) where
       either false h = full (ltb-false (length es) 16 h)
 
 -- from the oldest end, i is the place looked at
-module _ (k o s : List ℕ) (v : List ℤ) (i t : ℕ) (b : Batch) (a : b ≡ batchOf (madeAt (logOf k o s v i) t)) where
-  pub made-hit : (x : Item) (b′ : Batch) → getD s i 0 ≡ t → x ≡ itemOf (entryAt k o s v i) → b′ ≡ added b x → b′ ≡ batchOf (madeAt (logOf k o s v (i + 1)) t)
+module _ (ws : List ℕ) (i t : ℕ) (b : Batch) (a : b ≡ batchOf (madeAt (entries ws i) t)) where
+  pub made-hit : (x : Item) (b′ : Batch) → getD ws (8194 + i) 0 ≡ t → x ≡ itemOf (entryAt ws i) → b′ ≡ added b x → b′ ≡ batchOf (madeAt (entries ws (i + 1)) t)
   unfolding madeAt
-  made-hit x b′ e f g = g ∙ rw (log-more k o s v i, eq-eqb _ _ e, f, a) (batch-more (madeAt (logOf k o s v i) t) (entryAt k o s v i))
+  made-hit x b′ e f g = g ∙ rw (log-more ws i, eq-eqb _ _ e, f, a) (batch-more (madeAt (entries ws i) t) (entryAt ws i))
 
-  pub made-miss : (getD s i 0 ≡ t → ⊥) → b ≡ batchOf (madeAt (logOf k o s v (i + 1)) t)
+  pub made-miss : (getD ws (8194 + i) 0 ≡ t → ⊥) → b ≡ batchOf (madeAt (entries ws (i + 1)) t)
   unfolding madeAt
-  made-miss e = rw (log-more k o s v i, ne-eqb _ _ e) a
+  made-miss e = rw (log-more ws i, ne-eqb _ _ e) a

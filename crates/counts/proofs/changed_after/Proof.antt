@@ -11,7 +11,7 @@ count-versions-requires : tie.Need-count-versions-requires
 count-versions-requires c κs = search needs
 
 returns : tie.Need-returns
-returns c o v = changed _ _ _ (c .before .count-up-to .ensures o v) (c .count-versions .ensures o _ v)
+returns c = changed _ _ _ (c .before .count-up-to .ensures) (c .count-versions .ensures)
 
 pub changed-after-spec : {M : Type 1} → statement M
 changed-after-spec = tie.close (tie.spec count-up-to-requires count-versions-requires returns)

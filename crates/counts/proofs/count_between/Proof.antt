@@ -15,10 +15,10 @@ count-within-requires : tie.Need-count-within-requires
 count-within-requires c κs = search needs
 
 returns : tie.Need-returns
-returns c o v = c .count-within .ensures o v ∙ strictly _ _ _ _ (c .before .before .before .if1 .taken)
+returns c = c .count-within .ensures ∙ strictly _ _ _ _ (c .before .before .before .if1 .taken)
 
 returns-2 : tie.Need-returns-2
-returns-2 c o v = nothing-between _ _ _ _ (c .if1 .left)
+returns-2 c = nothing-between _ _ _ _ (c .if1 .left)
 
 pub count-between-spec : {M : Type 1} → statement M
 count-between-spec =

@@ -9,7 +9,7 @@ count-within-requires : tie.Need-count-within-requires
 count-within-requires c κs = search needs
 
 returns : tie.Need-returns
-returns c o v = c .count-within .ensures o v ∙ up-to _ _ _
+returns c = c .count-within .ensures ∙ up-to _ _ _
 
 pub count-up-to-spec : {M : Type 1} → statement M
 count-up-to-spec = tie.close (tie.spec count-within-requires returns)

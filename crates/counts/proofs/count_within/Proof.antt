@@ -1,63 +1,83 @@
--- `count_within` meets its contract: what was walked is counted, whatever stands in the two other columns.
-use Prim.Native.Nat.{ℕ, _≤_, _-_}
+use Prim.Native.Nat.{_≤_, _-_}
 use native.Mathlib.Numerals.{add-one}
 use native.Mathlib.Omega.{arith}
 use mathlib.Core.Path.{_≡_, refl}
-use mathlib.Core.List.{List}
-use lib.IntN.{ℤ}
 use borrow.Author.Needs.{needs}
 use Rattle.lists.specs.Lists.{count}
-use Rattle.columns.specs.Columns.{logOf, used}
+use Rattle.memory.specs.Memory.{entries, lengthOf}
 use Rattle.counts.specs.Within.{within}
 use Rattle.lists.proofs.Count.{bit-le, count-more}
 use Rattle.counts.proofs.count_within.Statement.{statement}
 use Rattle.counts.proofs.count_within.Tie as tie
 
 abbrev Inv-loop : tie.InvT-loop
-Inv-loop keys stamps length key low high end n₀ i₀ n i = (end ≡ used length) × ((i ≤ end) × ((n ≤ i) × ((o : List ℕ) (v : List ℤ) → n ≡ within (logOf keys o stamps v i) key low high)))
+Inv-loop memory key low high end n₀ i₀ n i = (end ≡ lengthOf memory) × ((i ≤ end) × ((n ≤ i) × (n ≡ within (entries memory i) key low high)))
 
 abbrev μ-loop : tie.MeasureT-loop
-μ-loop keys stamps length key low high end n₀ i₀ n i = end - i
+μ-loop memory key low high end n₀ i₀ n i = end - i
 
-in-use-requires : tie.Need-in-use-requires Inv-loop μ-loop
-in-use-requires c κs = search needs
+-- src/lib.rt:43:9
+length-of-requires : tie.Need-length-of-requires Inv-loop μ-loop
+length-of-requires c κs = search needs
 
+-- src/lib.rt:46:5
 loop-holds : tie.Need-loop-holds Inv-loop μ-loop
-unfolding within logOf count
-loop-holds c = (c .in-use .ensures, (search needs, (search needs, λ o v. refl)))
+unfolding within entries count
+loop-holds c = (c .length-of .ensures, (search needs, (search needs, refl)))
 
-element-copy-out-one-if-within : tie.Need-element-copy-out-one-if-within Inv-loop μ-loop
-element-copy-out-one-if-within c = search needs
+-- src/lib.rt:47:35
+add-one-if-within : tie.Need-add-one-if-within Inv-loop μ-loop
+add-one-if-within c = search needs
 
+-- src/lib.rt:47:28
 mul-one-if-within : tie.Need-mul-one-if-within Inv-loop μ-loop
 mul-one-if-within c = search needs
 
+-- src/lib.rt:47:28
+element-copy-out-one-if-within : tie.Need-element-copy-out-one-if-within Inv-loop μ-loop
+element-copy-out-one-if-within c = search needs
+
+-- src/lib.rt:47:53
+add-one-if-within-2 : tie.Need-add-one-if-within-2 Inv-loop μ-loop
+add-one-if-within-2 c = search needs
+
+-- src/lib.rt:47:46
+mul-one-if-within-2 : tie.Need-mul-one-if-within-2 Inv-loop μ-loop
+mul-one-if-within-2 c = search needs
+
+-- src/lib.rt:47:46
 element-copy-out-one-if-within-2 : tie.Need-element-copy-out-one-if-within-2 Inv-loop μ-loop
 element-copy-out-one-if-within-2 c = search needs
 
+-- src/lib.rt:47:14
 one-if-within-requires : tie.Need-one-if-within-requires Inv-loop μ-loop
 one-if-within-requires c κs = search needs
 
+-- src/lib.rt:47:9
 add-n : tie.Need-add-n Inv-loop μ-loop
 add-n c = omega (arith, bit-le _ _ (c .one-if-within .ensures))
 
+-- src/lib.rt:48:9
 add-i : tie.Need-add-i Inv-loop μ-loop
 add-i c = search needs
 
+-- src/lib.rt:46:5
 loop-less : tie.Need-loop-less Inv-loop μ-loop
 loop-less c = search needs
 
+-- src/lib.rt:46:5
 loop-again : tie.Need-loop-again Inv-loop μ-loop
-unfolding within logOf
+unfolding within entries
 loop-again c =
     let at = c .before .before .before .before .loop in
-    (at .inv .0, (omega arith, (omega (arith, bit-le _ _ (c .one-if-within .ensures)), λ o v. rw (add-one) (count-more _ _ _ _ _ (at .inv .1 .1 .1 o v) (c .one-if-within .ensures)))))
+    (at .inv .0, (omega arith, (omega (arith, bit-le _ _ (c .one-if-within .ensures)), rw (add-one) (count-more _ _ _ _ _ (at .inv .1 .1 .1) (c .one-if-within .ensures)))))
 
+-- src/lib.rt:40:1
 returns : tie.Need-returns Inv-loop μ-loop
 returns c =
     let at = c .before .loop in
-    let e : at .i ≡ used (c .before .before .before .args .length) = omega arith in
-    λ o v. rw (← e) (at .inv .1 .1 .1 o v)
+    let e : at .i ≡ lengthOf (c .before .before .before .args .memory .now) = omega arith in
+    rw (← e) (at .inv .1 .1 .1)
 
 pub count-within-spec : {M : Type 1} → statement M
 count-within-spec =
@@ -65,10 +85,13 @@ count-within-spec =
     (tie.spec
     Inv-loop
     μ-loop
-    in-use-requires
+    length-of-requires
     loop-holds
-    element-copy-out-one-if-within
+    add-one-if-within
     mul-one-if-within
+    element-copy-out-one-if-within
+    add-one-if-within-2
+    mul-one-if-within-2
     element-copy-out-one-if-within-2
     one-if-within-requires
     add-n

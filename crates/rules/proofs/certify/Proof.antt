@@ -11,15 +11,15 @@ first-requires : tie.Need-first-requires
 first-requires c κs = search needs
 
 returns : tie.Need-returns
-returns c o v = broken-BV _ _ _ (c .before .before .reads-in .ensures) _ (c .before .first .ensures o v) (c .if1 .taken)
+returns c = broken-BV _ _ _ (c .before .before .reads-in .ensures) _ (c .before .first .ensures) (c .if1 .taken)
 
 first-requires-2 : tie.Need-first-requires-2
 first-requires-2 c κs = search needs
 
 returns-2 : tie.Need-returns-2
-returns-2 c o v =
+returns-2 c =
     let p1 = c .before .before in
-    broken-FV _ _ _ (p1 .before .before .reads-in .ensures) _ (p1 .before .first .ensures o v) (p1 .if1 .left) _ (c .before .first2 .ensures o v) (c .if2 .taken)
+    broken-FV _ _ _ (p1 .before .before .reads-in .ensures) _ (p1 .before .first .ensures) (p1 .if1 .left) _ (c .before .first2 .ensures) (c .if2 .taken)
 
 latest-requires : tie.Need-latest-requires
 latest-requires c κs = search needs
@@ -34,11 +34,11 @@ first-requires-4 : tie.Need-first-requires-4
 first-requires-4 c κs = search needs
 
 returns-3 : tie.Need-returns-3
-returns-3 c o v =
+returns-3 c =
     let p3 = c .before .before in
     let p2 = p3 .before .before .before in
     let p1 = p2 .before .before in
-    broken-SV _ _ _ (p1 .before .before .reads-in .ensures) _ (p1 .before .first .ensures o v) (p1 .if1 .left) _ (p2 .before .first2 .ensures o v) (p2 .if2 .left) _ (p3 .before .before .latest .ensures) _ (p3 .before .first3 .ensures o v) _ _ (p3 .if3 .taken) (c .before .read-at .ensures) (c .first4 .ensures o v)
+    broken-SV _ _ _ (p1 .before .before .reads-in .ensures) _ (p1 .before .first .ensures) (p1 .if1 .left) _ (p2 .before .first2 .ensures) (p2 .if2 .left) _ (p3 .before .before .latest .ensures) _ (p3 .before .first3 .ensures) _ _ (p3 .if3 .taken) (c .before .read-at .ensures) (c .first4 .ensures)
 
 first-overtaken-requires : tie.Need-first-overtaken-requires
 first-overtaken-requires c κs = search needs
@@ -47,18 +47,18 @@ writes-in-requires : tie.Need-writes-in-requires
 writes-in-requires c κs = search needs
 
 returns-4 : tie.Need-returns-4
-returns-4 c o v =
+returns-4 c =
     let p3 = c .before .before .before in
     let p2 = p3 .before .before .before in
     let p1 = p2 .before .before in
-    broken-WC _ _ _ (p1 .before .before .reads-in .ensures) _ (p1 .before .first .ensures o v) (p1 .if1 .left) _ (p2 .before .first2 .ensures o v) (p2 .if2 .left) _ (p3 .before .before .latest .ensures) _ (p3 .before .first3 .ensures o v) (p3 .if3 .left) _ (c .before .writes-in .ensures) _ (c .before .before .first-overtaken .ensures o v) (c .if4 .taken)
+    broken-WC _ _ _ (p1 .before .before .reads-in .ensures) _ (p1 .before .first .ensures) (p1 .if1 .left) _ (p2 .before .first2 .ensures) (p2 .if2 .left) _ (p3 .before .before .latest .ensures) _ (p3 .before .first3 .ensures) (p3 .if3 .left) _ (c .before .writes-in .ensures) _ (c .before .before .first-overtaken .ensures) (c .if4 .taken)
 
 returns-5 : tie.Need-returns-5
-returns-5 c o v =
+returns-5 c =
     let p3 = c .before .before .before in
     let p2 = p3 .before .before .before in
     let p1 = p2 .before .before in
-    all-kept _ _ _ (p1 .before .before .reads-in .ensures) _ (p1 .before .first .ensures o v) (p1 .if1 .left) _ (p2 .before .first2 .ensures o v) (p2 .if2 .left) _ (p3 .before .before .latest .ensures) _ (p3 .before .first3 .ensures o v) (p3 .if3 .left) _ (c .before .writes-in .ensures) _ (c .before .before .first-overtaken .ensures o v) (c .if4 .left)
+    all-kept _ _ _ (p1 .before .before .reads-in .ensures) _ (p1 .before .first .ensures) (p1 .if1 .left) _ (p2 .before .first2 .ensures) (p2 .if2 .left) _ (p3 .before .before .latest .ensures) _ (p3 .before .first3 .ensures) (p3 .if3 .left) _ (c .before .writes-in .ensures) _ (c .before .before .first-overtaken .ensures) (c .if4 .left)
 
 pub certify-spec : {M : Type 1} → statement M
 certify-spec =

@@ -15,7 +15,7 @@ difference-requires : tie.Need-difference-requires
 difference-requires c κs = search needs
 
 returns : tie.Need-returns
-returns c o v = rw (toZ-ofZ (record { sfits = c .difference .ok })) (by-counts _ _ _ _ _ (c .difference .ensures) (c .before .before .count-up-to .ensures o v) (c .before .count-up-to2 .ensures o v))
+returns c = rw (toZ-ofZ (record { sfits = c .difference .ok })) (by-counts _ _ _ _ _ (c .difference .ensures) (c .before .before .count-up-to .ensures) (c .before .count-up-to2 .ensures))
 
 pub distance-of-spec : {M : Type 1} → statement M
 distance-of-spec =

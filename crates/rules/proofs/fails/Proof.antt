@@ -42,16 +42,16 @@ wide-requires-2 : tie.Need-wide-requires-2
 wide-requires-2 c κs = search needs
 
 returns : tie.Need-returns
-returns c o v = is-stale _ _ _ _ (c .before .distance-of .result) (c .before .before .enum-told .given .1) (rw (toZ-ofZ (record { sfits = c .before .distance-of .ok })) at (c .is-stale .ensures)) (c .before .distance-of .ensures o v)
+returns c = is-stale _ _ _ _ (c .before .distance-of .result) (c .before .before .enum-told .given .1) (rw (toZ-ofZ (record { sfits = c .before .distance-of .ok })) at (c .is-stale .ensures)) (c .before .distance-of .ensures)
 
 returns-2 : tie.Need-returns-2
-returns-2 c o v = is-early _ _ _ _ (c .before .distance-of2 .result) (c .before .before .enum-told2 .given .1) (rw (toZ-ofZ (record { sfits = c .before .distance-of2 .ok })) at (c .is-early .ensures)) (c .before .distance-of2 .ensures o v)
+returns-2 c = is-early _ _ _ _ (c .before .distance-of2 .result) (c .before .before .enum-told2 .given .1) (rw (toZ-ofZ (record { sfits = c .before .distance-of2 .ok })) at (c .is-early .ensures)) (c .before .distance-of2 .ensures)
 
 returns-3 : tie.Need-returns-3
-returns-3 c o v = is-torn _ _ _ _ _ (c .before .before .before .test .given .1) (c .wide .ensures) (c .before .count-between .ensures o v)
+returns-3 c = is-torn _ _ _ _ _ (c .before .before .before .test .given .1) (c .wide .ensures) (c .before .count-between .ensures)
 
 returns-4 : tie.Need-returns-4
-returns-4 c o v = is-apart _ _ _ _ _ (c .before .before .before .test2 .given .1) (c .wide2 .ensures) (c .before .count-between2 .ensures o v)
+returns-4 c = is-apart _ _ _ _ _ (c .before .before .before .test2 .given .1) (c .wide2 .ensures) (c .before .count-between2 .ensures)
 
 pub fails-spec : {M : Type 1} → statement M
 fails-spec =

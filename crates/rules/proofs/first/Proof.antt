@@ -1,31 +1,29 @@
 -- `first` meets its contract: what the reads not yet asked answer is the whole answer.
-use Prim.Native.Nat.{ℕ, _+_, _-_}
+use Prim.Native.Nat.{_+_, _-_}
 use native.Mathlib.Omega.{arith}
 use mathlib.Core.Path.{_≡_, _∙_, sym, ap}
-use mathlib.Core.List.{List}
-use lib.IntN.{ℤ}
 use lib.ListN.{drop}
 use lib.ListN as L
 use borrow.Author.Needs.{needs}
 use Rattle.lists.specs.Lists.{find}
 use Rattle.lists.proofs.Find.{search-over, search-hit, search-miss}
-use Rattle.columns.specs.Columns.{logOf, used}
+use Rattle.memory.specs.Memory.{logOf}
 use Rattle.transaction.specs.Transaction.{readsOf, noMark}
 use Rattle.rules.specs.Tests.{fails}
 use Rattle.rules.proofs.first.Statement.{statement}
 use Rattle.rules.proofs.first.Tie as tie
 
 abbrev Inv-loop : tie.InvT-loop
-Inv-loop test keys stamps length t end i₀ i = (end ≡ L.length (readsOf t)) × ((o : List ℕ) (v : List ℤ) → find (fails test (logOf keys o stamps v (used length)) t) (readsOf t) ≡ i + find (fails test (logOf keys o stamps v (used length)) t) (drop i (readsOf t)))
+Inv-loop test memory t end i₀ i = (end ≡ L.length (readsOf t)) × (find (fails test (logOf memory) t) (readsOf t) ≡ i + find (fails test (logOf memory) t) (drop i (readsOf t)))
 
 abbrev μ-loop : tie.MeasureT-loop
-μ-loop test keys stamps length t end i₀ i = end - i
+μ-loop test memory t end i₀ i = end - i
 
 reads-in-requires : tie.Need-reads-in-requires Inv-loop μ-loop
 reads-in-requires c κs = search needs
 
 loop-holds : tie.Need-loop-holds Inv-loop μ-loop
-loop-holds c = (c .reads-in .ensures, λ o v. omega arith)
+loop-holds c = (c .reads-in .ensures, omega arith)
 
 read-at-requires : tie.Need-read-at-requires Inv-loop μ-loop
 read-at-requires c κs = search needs
@@ -34,9 +32,9 @@ fails-requires : tie.Need-fails-requires Inv-loop μ-loop
 fails-requires c κs = search needs
 
 returns : tie.Need-returns Inv-loop μ-loop
-returns c o v =
+returns c =
     let at = c .before .before .before .before .loop in
-    search-hit _ _ (at .i) _ noMark (at .inv .1 o v) (omega arith) (ap (fails _ _ _) (sym (c .before .before .read-at .ensures)) ∙ sym (c .before .fails .ensures o v) ∙ c .if1 .taken)
+    search-hit _ _ (at .i) _ noMark (at .inv .1) (omega arith) (ap (fails _ _ _) (sym (c .before .before .read-at .ensures)) ∙ sym (c .before .fails .ensures) ∙ c .if1 .taken)
 
 add-i : tie.Need-add-i Inv-loop μ-loop
 add-i c = search needs
@@ -47,10 +45,10 @@ loop-less c = search needs
 loop-again : tie.Need-loop-again Inv-loop μ-loop
 loop-again c =
     let at = c .before .before .before .before .loop in
-    (at .inv .0, λ o v. search-miss _ _ (at .i) _ noMark (at .inv .1 o v) (omega arith) (ap (fails _ _ _) (sym (c .before .before .read-at .ensures)) ∙ sym (c .before .fails .ensures o v) ∙ c .if1 .left))
+    (at .inv .0, search-miss _ _ (at .i) _ noMark (at .inv .1) (omega arith) (ap (fails _ _ _) (sym (c .before .before .read-at .ensures)) ∙ sym (c .before .fails .ensures) ∙ c .if1 .left))
 
 returns-2 : tie.Need-returns-2 Inv-loop μ-loop
-returns-2 c o v = search-over _ _ _ _ (c .before .loop .inv .1 o v) (omega arith)
+returns-2 c = search-over _ _ _ _ (c .before .loop .inv .1) (omega arith)
 
 pub first-spec : {M : Type 1} → statement M
 first-spec =

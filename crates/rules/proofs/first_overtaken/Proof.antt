@@ -1,15 +1,13 @@
 -- `first_overtaken` meets its contract: what the written keys not yet asked answer is the whole answer.
-use Prim.Native.Nat.{ℕ, _+_, _-_}
+use Prim.Native.Nat.{_+_, _-_}
 use native.Mathlib.Omega.{arith}
 use mathlib.Core.Path.{_≡_}
-use mathlib.Core.List.{List}
-use lib.IntN.{ℤ}
 use lib.ListN.{drop}
 use lib.ListN as L
 use borrow.Author.Needs.{needs}
 use Rattle.lists.specs.Lists.{find}
 use Rattle.lists.proofs.Find.{search-over, search-hit, search-miss}
-use Rattle.columns.specs.Columns.{logOf, used}
+use Rattle.memory.specs.Memory.{logOf}
 use Rattle.transaction.specs.Transaction.{writesOf, noWrite}
 use Rattle.model.specs.Rules.{overtaken}
 use Rattle.rules.proofs.Asked.{of-key}
@@ -17,16 +15,16 @@ use Rattle.rules.proofs.first_overtaken.Statement.{statement}
 use Rattle.rules.proofs.first_overtaken.Tie as tie
 
 abbrev Inv-loop : tie.InvT-loop
-Inv-loop keys stamps length t end i₀ i = (end ≡ L.length (writesOf t)) × ((o : List ℕ) (v : List ℤ) → find (overtaken (logOf keys o stamps v (used length)) t) (writesOf t) ≡ i + find (overtaken (logOf keys o stamps v (used length)) t) (drop i (writesOf t)))
+Inv-loop memory t end i₀ i = (end ≡ L.length (writesOf t)) × (find (overtaken (logOf memory) t) (writesOf t) ≡ i + find (overtaken (logOf memory) t) (drop i (writesOf t)))
 
 abbrev μ-loop : tie.MeasureT-loop
-μ-loop keys stamps length t end i₀ i = end - i
+μ-loop memory t end i₀ i = end - i
 
 writes-in-requires : tie.Need-writes-in-requires Inv-loop μ-loop
 writes-in-requires c κs = search needs
 
 loop-holds : tie.Need-loop-holds Inv-loop μ-loop
-loop-holds c = (c .writes-in .ensures, λ o v. omega arith)
+loop-holds c = (c .writes-in .ensures, omega arith)
 
 key-at-requires : tie.Need-key-at-requires Inv-loop μ-loop
 key-at-requires c κs = search needs
@@ -35,9 +33,9 @@ changed-after-requires : tie.Need-changed-after-requires Inv-loop μ-loop
 changed-after-requires c κs = search needs
 
 returns : tie.Need-returns Inv-loop μ-loop
-returns c o v =
+returns c =
     let at = c .before .before .before .before .loop in
-    search-hit _ _ (at .i) _ noWrite (at .inv .1 o v) (omega arith) (of-key _ _ _ (c .before .before .key-at .ensures) (c .before .changed-after .ensures o v) (c .if1 .taken))
+    search-hit _ _ (at .i) _ noWrite (at .inv .1) (omega arith) (of-key _ _ _ (c .before .before .key-at .ensures) (c .before .changed-after .ensures) (c .if1 .taken))
 
 add-i : tie.Need-add-i Inv-loop μ-loop
 add-i c = search needs
@@ -48,10 +46,10 @@ loop-less c = search needs
 loop-again : tie.Need-loop-again Inv-loop μ-loop
 loop-again c =
     let at = c .before .before .before .before .loop in
-    (at .inv .0, λ o v. search-miss _ _ (at .i) _ noWrite (at .inv .1 o v) (omega arith) (of-key _ _ _ (c .before .before .key-at .ensures) (c .before .changed-after .ensures o v) (c .if1 .left)))
+    (at .inv .0, search-miss _ _ (at .i) _ noWrite (at .inv .1) (omega arith) (of-key _ _ _ (c .before .before .key-at .ensures) (c .before .changed-after .ensures) (c .if1 .left)))
 
 returns-2 : tie.Need-returns-2 Inv-loop μ-loop
-returns-2 c o v = search-over _ _ _ _ (c .before .loop .inv .1 o v) (omega arith)
+returns-2 c = search-over _ _ _ _ (c .before .loop .inv .1) (omega arith)
 
 pub first-overtaken-spec : {M : Type 1} → statement M
 first-overtaken-spec =

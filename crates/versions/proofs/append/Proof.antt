@@ -1,82 +1,122 @@
--- `append` meets its contract: there is room for the version, or nothing is stored.
-use Prim.Native.Nat.{_+_}
 use native.Mathlib.Omega.{arith}
-use mathlib.Core.Path.{sym}
-use mathlib.Core.List.{[]}
-use denote.Ref.{now}
 use mir.Facts.{toZ-ofZ}
 use mir.Syntax.{w32}
 use mir.Val.{SFits}
-use Rattle.columns.specs.Columns.{used}
-use Rattle.versions.specs.Append.{columns, logIn}
-use Rattle.versions.proofs.Walk.{versions-le}
-use Rattle.versions.proofs.Laying.{stored-out, next-stored}
+use Rattle.memory.specs.Memory.{lengthOf}
+use Rattle.versions.proofs.Laws.{append-goes, append-full, versions-le}
 use borrow.Author.Needs.{needs}
 use Rattle.versions.proofs.append.Statement.{statement}
 use Rattle.versions.proofs.append.Tie as tie
 
-sized-requires : tie.Need-sized-requires
-sized-requires c κs = search needs
+-- src/lib.rt:69:9
+length-of-requires : tie.Need-length-of-requires
+length-of-requires c κs = search needs
 
+-- src/lib.rt:71:23
 count-versions-requires : tie.Need-count-versions-requires
 count-versions-requires c κs = search needs
 
+-- src/lib.rt:71:23
 add-ordinal : tie.Need-add-ordinal
-add-ordinal c =
-    let a = c .before .before .before .before .before .before .before .before .args in
-    omega (arith, c .count-versions .ensures [] [] [], versions-le (now (a .keys)) [] [] [] (a .w .key) (used (a .at)))
+add-ordinal c = let a = c .before .before .before .before .before .args in omega (arith, c .count-versions .ensures, versions-le (a .memory .now) (lengthOf (a .memory .now)) (a .w .key))
 
-element-write-keys : tie.Need-element-write-keys
-element-write-keys c = search needs
+-- src/lib.rt:72:13
+word-of-requires : tie.Need-word-of-requires
+word-of-requires c κs = search needs
 
-mul-ordinals : tie.Need-mul-ordinals
-mul-ordinals c = search needs
+-- src/lib.rt:73:16
+add-memory : tie.Need-add-memory
+add-memory c = search needs
 
-element-write-ordinals : tie.Need-element-write-ordinals
-element-write-ordinals c = search needs
+-- src/lib.rt:73:9
+mul-memory : tie.Need-mul-memory
+mul-memory c = search needs
 
-mul-stamps : tie.Need-mul-stamps
-mul-stamps c = search needs
+-- src/lib.rt:73:9
+element-write-memory : tie.Need-element-write-memory
+element-write-memory c = search needs
 
-element-write-stamps : tie.Need-element-write-stamps
-element-write-stamps c = search needs
+-- src/lib.rt:74:16
+add-memory-2 : tie.Need-add-memory-2
+add-memory-2 c = search needs
 
-mul-value : tie.Need-mul-value
-mul-value c = search needs
+-- src/lib.rt:74:9
+mul-memory-2 : tie.Need-mul-memory-2
+mul-memory-2 c = search needs
 
-element-set-from-value : tie.Need-element-set-from-value
-element-set-from-value c = search needs
+-- src/lib.rt:74:9
+element-write-memory-2 : tie.Need-element-write-memory-2
+element-write-memory-2 c = search needs
 
-add-result : tie.Need-add-result
-add-result c = search needs
+-- src/lib.rt:75:16
+add-memory-3 : tie.Need-add-memory-3
+add-memory-3 c = search needs
 
+-- src/lib.rt:75:9
+mul-memory-3 : tie.Need-mul-memory-3
+mul-memory-3 c = search needs
+
+-- src/lib.rt:75:9
+element-write-memory-3 : tie.Need-element-write-memory-3
+element-write-memory-3 c = search needs
+
+-- src/lib.rt:76:16
+add-memory-4 : tie.Need-add-memory-4
+add-memory-4 c = search needs
+
+-- src/lib.rt:76:9
+mul-memory-4 : tie.Need-mul-memory-4
+mul-memory-4 c = search needs
+
+-- src/lib.rt:76:9
+element-write-memory-4 : tie.Need-element-write-memory-4
+element-write-memory-4 c = search needs
+
+-- src/lib.rt:77:27
+add-memory-5 : tie.Need-add-memory-5
+add-memory-5 c = search needs
+
+-- src/lib.rt:77:26
+cast-memory : tie.Need-cast-memory
+cast-memory c = search needs
+
+-- src/lib.rt:77:9
+element-write-memory-5 : tie.Need-element-write-memory-5
+element-write-memory-5 c = search needs
+
+-- src/lib.rt:66:1
 returns : tie.Need-returns
 returns c =
-    let a = c .before .before .before .before .before .before .before .before .before .args in
-    let k = columns (now (a .keys)) (now (a .ordinals)) (now (a .stamps)) (now (a .values)) in
-    let n = c .before .count-versions in
+    let a = c .before .before .before .before .before .before .before .args in
     let f : SFits w32 (a .w .value) = search needs in
-    (next-stored k (a .at) (a .stamp .0) (n .result + 1) _ (a .w) (logIn k (used (a .at))) (omega (arith, n .ensures (k .ordinals) (k .stamps) (k .values))) (toZ-ofZ f), omega arith)
+    append-goes (a .memory .now) _ _ _ _ (a .w) (c .before .before .before .before .before .length-of .ensures) (c .before .before .before .before .if1 .taken) (c .before .before .count-versions .ensures) (rw (toZ-ofZ f) at (c .word-of .ensures))
 
+-- src/lib.rt:66:1
 returns-2 : tie.Need-returns-2
-returns-2 c =
-    let a = c .before .before .before .before .before .before .args in
-    (sym (stored-out _ (c .before .sized .ensures) (a .at) _ (c .if1 .left)), omega arith)
+returns-2 c = append-full _ _ _ _ (c .before .length-of .ensures) (c .if1 .left)
 
 pub append-spec : {M : Type 1} → statement M
 append-spec =
     tie.close
     (tie.spec
-    sized-requires
+    length-of-requires
     count-versions-requires
     add-ordinal
-    element-write-keys
-    mul-ordinals
-    element-write-ordinals
-    mul-stamps
-    element-write-stamps
-    mul-value
-    element-set-from-value
-    add-result
+    word-of-requires
+    add-memory
+    mul-memory
+    element-write-memory
+    add-memory-2
+    mul-memory-2
+    element-write-memory-2
+    add-memory-3
+    mul-memory-3
+    element-write-memory-3
+    add-memory-4
+    mul-memory-4
+    element-write-memory-4
+    add-memory-5
+    cast-memory
+    element-write-memory-5
     returns
     returns-2)

@@ -1,94 +1,69 @@
--- `install` meets its contract: the writes still to be laid give the columns and the length that all give.
-use Prim.Native.Nat.{_-_, _≤_}
+use Prim.Native.Nat.{_-_, _≤_, _<_}
 use native.Mathlib.Omega.{arith}
-use mathlib.Core.Path.{_≡_, ap}
-use lib.ListN.{drop, length-drop}
-use lib.ListN as lists
+use mathlib.Core.Path.{_≡_, _∙_, sym, ap, refl}
+use lib.ListN.{length, drop}
+use Rattle.transaction.specs.Transaction.{writesOf, noWrite}
+use Rattle.lists.proofs.Length.{length-mapped, front-size, front-at}
+use Rattle.words.specs.Installed.{appended, installed}
+use Rattle.versions.proofs.Laws.{install-step, install-over}
 use borrow.Author.Needs.{needs}
-use Rattle.lists.proofs.Length.{length-mapped, front-size}
-use Rattle.transaction.specs.Transaction.{writesOf}
-use Rattle.columns.specs.Columns.{used}
-use Rattle.versions.specs.Append.{Columns, columns, Sized}
-use Rattle.versions.proofs.Laying.{Left, left-all, left-next, left-none}
 use Rattle.versions.proofs.install.Statement.{statement}
 use Rattle.versions.proofs.install.Tie as tie
 
 abbrev Inv-loop : tie.InvT-loop
-Inv-loop keys₀ ordinals₀ stamps₀ values₀ length stamp t end at₀ i₀ keys ordinals stamps values at i =
-    ((end ≡ lists.length (writesOf t)) × (end ≤ 16))
-    × ((i ≤ end)
-    × (Sized (columns keys₀ ordinals₀ stamps₀ values₀)
-    × Left (stamp .0) (columns keys ordinals stamps values) at (drop i (writesOf t)) (columns keys₀ ordinals₀ stamps₀ values₀) (used length) (writesOf t)))
+Inv-loop memory₀ stamp t end i₀ memory i = (end ≡ length (writesOf t)) × ((end ≤ 16) × ((i ≤ end) × (installed memory (stamp .0) (drop i (writesOf t)) ≡ installed memory₀ (stamp .0) (writesOf t))))
 
 abbrev μ-loop : tie.MeasureT-loop
-μ-loop keys₀ ordinals₀ stamps₀ values₀ length stamp t end at₀ i₀ keys ordinals stamps values at i =
-    end - i
+μ-loop memory₀ stamp t end i₀ memory i = end - i
 
-sized-requires : tie.Need-sized-requires Inv-loop μ-loop
-sized-requires c κs = search needs
-
+-- src/lib.rt:57:9
 writes-in-requires : tie.Need-writes-in-requires Inv-loop μ-loop
 writes-in-requires c κs = search needs
 
-in-use-requires : tie.Need-in-use-requires Inv-loop μ-loop
-in-use-requires c κs = search needs
-
+-- src/lib.rt:59:5
 loop-holds : tie.Need-loop-holds Inv-loop μ-loop
 loop-holds c =
-    let z = c .before .before .sized .ensures in
-    let t = c .before .before .before .before .before .before .before .args .t7 in
+    let t = c .before .args .t3 in
     let l = front-size (t .written) (t .writes) 16 (search (needs, length-mapped)) in
-    ((c .before .writes-in .ensures, omega arith), (omega arith, (z, rw (c .in-use .ensures) (left-all _ _ _ _ z (omega arith)))))
+    (c .writes-in .ensures, (omega arith, (omega arith, refl)))
 
+-- src/lib.rt:60:31
 mul-append : tie.Need-mul-append Inv-loop μ-loop
 mul-append c = omega arith
 
+-- src/lib.rt:60:31
 element-copy-out-append : tie.Need-element-copy-out-append Inv-loop μ-loop
 element-copy-out-append c = omega arith
 
+-- src/lib.rt:60:9
 append-requires : tie.Need-append-requires Inv-loop μ-loop
 append-requires c κs = search needs
 
+-- src/lib.rt:61:9
 add-i : tie.Need-add-i Inv-loop μ-loop
 add-i c = omega arith
 
+-- src/lib.rt:59:5
 loop-less : tie.Need-loop-less Inv-loop μ-loop
 loop-less c = omega arith
 
+-- src/lib.rt:59:5
 loop-again : tie.Need-loop-again Inv-loop μ-loop
 loop-again c =
-    let d = c .before .before .before .before .before .before .before in
-    let t = d .before .before .before .before .before .before .before .before .args .t7 in
-    let z = d .loop .inv in (
-      z .0,
-      (
-        omega arith,
-        (
-          z .1 .1 .0,
-          left-next _ _ _ _ _ _ (d .loop .i) t (omega arith) (z .1 .1 .1) _ _ (c .append .ensures .0) (c .append .ensures .1),
-        ),
-      ),
-    )
+    let l = c .before .before .before .before .loop in
+    let a = c .before .before .before .before .before .before .args in
+    let t = a .t3 in
+    let z = l .inv in
+    let h : l .i < length (writesOf t) = omega arith in
+    let same = front-at (t .written) (t .writes) 16 (search (needs, length-mapped)) (l .i) noWrite h in
+    (z .0, (z .1 .0, (omega arith, install-step (l .memory) _ (a .stamp .0) (l .i) (writesOf t) h (c .append .ensures ∙ ap (appended (l .memory) (a .stamp .0)) (sym same)) ∙ z .1 .1 .1)))
 
+-- src/lib.rt:54:1
 returns : tie.Need-returns Inv-loop μ-loop
 returns c =
-    let z = c .before .loop .inv in
-    let l = left-none _ _ _ _ _ _ (z .1 .1 .0) _ (simp length-drop (omega arith)) (z .1 .1 .1) in (
-      ap (λ (d : Columns). d .keys) (l .columns),
-      (
-        ap (λ (d : Columns). d .ordinals) (l .columns),
-        (
-          ap (λ (d : Columns). d .stamps) (l .columns),
-          (
-            ap (λ (d : Columns). d .values) (l .columns),
-            (
-              l .reply,
-              l .log,
-            ),
-          ),
-        ),
-      ),
-    )
+    let l = c .before .loop in
+    let a = c .before .before .before .args in
+    install-over (l .memory) (a .stamp .0) (l .i) (writesOf (a .t3)) (omega arith) ∙ l .inv .1 .1 .1
 
 pub install-spec : {M : Type 1} → statement M
 install-spec =
@@ -96,9 +71,7 @@ install-spec =
     (tie.spec
     Inv-loop
     μ-loop
-    sized-requires
     writes-in-requires
-    in-use-requires
     loop-holds
     mul-append
     element-copy-out-append

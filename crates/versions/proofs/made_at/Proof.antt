@@ -5,28 +5,31 @@ use mathlib.Core.Path.{_≡_, _∙_}
 use mathlib.Core.Logic.{⊎-elim}
 use borrow.Author.Needs.{needs}
 use Rattle.model.specs.Log.{madeAt}
-use Rattle.columns.specs.Columns.{used, logOf}
+use Rattle.memory.specs.Memory.{entries, lengthOf}
 use Rattle.versions.specs.Batch.{batchOf}
 use Rattle.versions.proofs.Gathering.{made-hit, made-miss}
 use Rattle.versions.proofs.made_at.Statement.{statement}
 use Rattle.versions.proofs.made_at.Tie as tie
 
 abbrev Inv-loop : tie.InvT-loop
-Inv-loop keys ordinals stamps values length wanted end batch₀ i₀ batch i =
-    (i ≤ end) × ((end ≡ used length) × (batch ≡ batchOf (madeAt (logOf keys ordinals stamps values i) wanted)))
+Inv-loop memory wanted end batch₀ i₀ batch i =
+    (i ≤ end) × ((end ≡ lengthOf memory) × (batch ≡ batchOf (madeAt (entries memory i) wanted)))
 
 abbrev μ-loop : tie.MeasureT-loop
-μ-loop keys ordinals stamps values length wanted end batch₀ i₀ batch i = end - i
+μ-loop memory wanted end batch₀ i₀ batch i = end - i
 
-in-use-requires : tie.Need-in-use-requires Inv-loop μ-loop
-in-use-requires c κs = search needs
+length-of-requires : tie.Need-length-of-requires Inv-loop μ-loop
+length-of-requires c κs = search needs
 
 empty-requires : tie.Need-empty-requires Inv-loop μ-loop
 empty-requires c κs = search needs
 
 loop-holds : tie.Need-loop-holds Inv-loop μ-loop
-unfolding madeAt logOf batchOf
-loop-holds c = (omega arith, (c .before .in-use .ensures, c .empty .ensures))
+unfolding madeAt entries batchOf
+loop-holds c = (omega arith, (c .before .length-of .ensures, c .empty .ensures))
+
+add-if1 : tie.Need-add-if1 Inv-loop μ-loop
+add-if1 c = omega arith
 
 mul-if1 : tie.Need-mul-if1 Inv-loop μ-loop
 mul-if1 c = omega arith
@@ -54,15 +57,15 @@ loop-again c =
       (
         z .1 .0,
         ⊎-elim
-            (λ w. made-hit _ _ _ _ _ _ _ (z .1 .1) _ _ (w .0 .taken) (w .1 .ensures) (w .3 ∙ w .2 .ensures))
-            (λ w. w .1 ∙ made-miss _ _ _ _ _ _ _ (z .1 .1) (w .0 .left))
+            (λ w. made-hit (d .before .before .before .args .memory .now) _ _ _ (z .1 .1) _ _ (w .0 .taken) (w .1 .ensures) (w .3 ∙ w .2 .ensures))
+            (λ w. w .1 ∙ made-miss (d .before .before .before .args .memory .now) _ _ _ (z .1 .1) (w .0 .left))
             (c .if1 .came),
       ),
     )
 
 returns : tie.Need-returns Inv-loop μ-loop
 returns c =
-    let e : c .before .loop .i ≡ used (c .before .before .before .before .args .length) = omega arith in
+    let e : c .before .loop .i ≡ lengthOf (c .before .before .before .before .args .memory .now) = omega arith in
     c .before .loop .inv .1 .1 ∙ rw e
 
 pub made-at-spec : {M : Type 1} → statement M
@@ -71,9 +74,10 @@ made-at-spec =
     (tie.spec
     Inv-loop
     μ-loop
-    in-use-requires
+    length-of-requires
     empty-requires
     loop-holds
+    add-if1
     mul-if1
     element-copy-out-if1
     item-at-requires

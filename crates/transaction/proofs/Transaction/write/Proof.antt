@@ -18,6 +18,9 @@ element-set-from-self c = search needs
 add-at-least : tie.Need-add-at-least
 add-at-least c = search needs
 
+cast-at-least : tie.Need-cast-at-least
+cast-at-least c = search needs
+
 at-least-requires : tie.Need-at-least-requires
 at-least-requires c κs = search needs
 
@@ -39,6 +42,7 @@ write-spec =
     mul-t9
     element-set-from-self
     add-at-least
+    cast-at-least
     at-least-requires
     returns
     returns-2)

@@ -1,0 +1,2 @@
+pub mod Installing
+pub mod After
