@@ -1,11 +1,11 @@
 -- The words after read and commit stand for the state after them.
-use Prim.Native.Nat.{ℕ, suc, _+_, _*_, _≤_, _<_}
+use Prim.Native.Nat.{ℕ, zero, suc, _+_, _*_, _≤_, _<_}
 use native.Mathlib.Omega.{arith}
 use native.Mathlib.Decide.{ℕ-discrete, decLt}
-use mathlib.Core.Path.{_≡_, refl, sym, _∙_}
+use mathlib.Core.Path.{_≡_, refl, sym, _∙_, ap}
 use mathlib.Core.Logic.{inr}
 use mathlib.Core.Bool.{Bool, true, false, cond}
-use mathlib.Core.List.{List}
+use mathlib.Core.List.{List, [], _∷_}
 use borrow.Author.Tests.{leb-false, ltb-false}
 use lib.Dec.{leb, ltb, eqb}
 use lib.IntN.{ℤ}
@@ -13,6 +13,7 @@ use lib.ListN.{length, getD, set, take, length-set, length-take, List·getD-eq-d
 use lib.Seq.{getD-set-same, getD-set-other, getD-take}
 use mir.Syntax.{w32}
 use mir.Val.{SFits}
+use Rattle.lists.specs.Lists.{Every, none, also}
 use Rattle.units.specs.declared.Version.{Version}
 use Rattle.units.specs.declared.rule.Certified.{Certified}
 use Rattle.units.specs.declared.rule.Certified.the-variants.{Whole, Broken}
@@ -24,9 +25,10 @@ use Rattle.transaction.specs.Transaction.{fresh, ended, recorded, tuned, writte
 use Rattle.model.specs.Log.{newest}
 use Rattle.model.specs.Log as log
 use Rattle.model.specs.Rules.{certified}
-use Rattle.model.specs.State.{opened, noTransaction, freePlace, transaction, withTransaction}
+use Rattle.model.specs.State.{State, opened, noTransaction, freePlace, transaction, withTransaction}
 use Rattle.model.specs.Step.{Step, step, checksOf, finalOf, order, marked, ends}
-use Rattle.model.specs.Call.{Call, Start, Read, Note, Write, Tune, Distance, Abort, Commit, Message, Newest}
+use Rattle.model.specs.Call.{Call, Start, Read, Note, Write, Tune, Distance, Abort, Commit, Message, Newest, Reply, refused, started, version, own, done, apartBy, committed, aborted, made, madeBy}
+use Rattle.model.specs.Session.{reached, replies}
 use Rattle.units.specs.Bounds.{triple}
 use Rattle.units.specs.declared.Found.{Found}
 use Rattle.units.specs.declared.Found.the-variants.{At, Absent}
@@ -34,7 +36,7 @@ use Rattle.memory.specs.Memory.{tab, baseOf, markAt, writeAt, entries, loaded, 
 use Rattle.memory.proofs.Laws.{tab-same, tab-set, load-frame, log-frame, load-same, load-other, length-stored, places-at, places-stored, log-stored, state-stored, state-clock, good-loaded, good-fresh, good-written}
 use Rattle.words.specs.Installed.{installed}
 use Rattle.words.proofs.Installing.{length-log, length-installed, installed-other, log-installed}
-use Rattle.words.specs.After.{at, closed, change, after}
+use Rattle.words.specs.After.{at, closed, onStarted, onVersion, onDone, onCommit, change, after, cleared, openedWords, played, answered, InRange, start, read, note, write, tune, distance, abort, commit, message, latest}
 
 good-recorded : (t : Transaction) (m : Mark) → Good t → Good (recorded t m)
 unfolding recorded
@@ -141,19 +143,26 @@ module _ (ws : List ℕ) (whole : length ws ≡ 19170) (n : ℕ) where
 pub good-spare : Good (ended (fresh 0))
 good-spare = let g = good-fresh 0 in record { reads = g .reads; writes = g .writes; k1 = g .k1; k2 = g .k2; k3 = g .k3; values = g .values }
 
-pub cleared : (ws us : List ℕ) (i : ℕ) (t : Transaction) → Good t → length ws ≡ 19170 → i < 32 → us ≡ stored ws i t → ((q : ℕ) → q < i → loaded ws q ≡ t)
-    → (length us ≡ 19170) × ((q : ℕ) → q < i + 1 → loaded us q ≡ t)
-cleared ws us i t g whole below e before = rw e (length-stored ws i t ∙ whole, λ q h. go q h (ℕ-discrete q i))
-  where
-    go : (q : ℕ) → q < i + 1 → Dec (q ≡ i) → loaded (stored ws i t) q ≡ t
-    go q h (yes z) = rw z (load-same ws i t g whole)
-    go q h (no z) = load-other ws whole i below t g q (omega arith) z ∙ before q (omega arith)
+module _ (ws : List ℕ) (whole : length ws ≡ 19170) where
+  pub length-cleared : (n : ℕ) → length (cleared ws n) ≡ 19170
+  unfolding cleared
+  length-cleared zero = whole
+  length-cleared (suc n) = length-stored (cleared ws n) n (ended (fresh 0)) ∙ length-cleared n
 
-pub all-spare : (us : List ℕ) (t : Transaction) → ((q : ℕ) → q < 32 → loaded us q ≡ t) → placesOf us ≡ replicate 32 t
+  spare-at : (n : ℕ) → n ≤ 32 → (q : ℕ) → q < n → loaded (cleared ws n) q ≡ ended (fresh 0)
+  unfolding cleared
+  spare-at zero l q h = absurd (omega arith)
+  spare-at (suc n) l q h = go (ℕ-discrete q n) (spare-at n (omega arith) q)
+    where
+      go : Dec (q ≡ n) → (q < n → loaded (cleared ws n) q ≡ ended (fresh 0)) → loaded (stored (cleared ws n) n (ended (fresh 0))) q ≡ ended (fresh 0)
+      go (yes z) r = rw z (load-same (cleared ws n) n (ended (fresh 0)) good-spare (length-cleared n))
+      go (no z) r = load-other (cleared ws n) (length-cleared n) n (omega arith) (ended (fresh 0)) good-spare q (omega arith) z ∙ r (omega arith)
+
+all-spare : (us : List ℕ) (t : Transaction) → ((q : ℕ) → q < 32 → loaded us q ≡ t) → placesOf us ≡ replicate 32 t
 unfolding placesOf tab
 all-spare us t h = tab-same noTransaction (loaded us) (λ (q : ℕ). t) 32 h
 
-pub state-opened : (ms : List ℕ) (c : ℕ) → length ms ≡ 19170 → placesOf ms ≡ replicate 32 (ended (fresh 0)) → stateOf (set (set ms 0 c) 1 0) ≡ opened c
+state-opened : (ms : List ℕ) (c : ℕ) → length ms ≡ 19170 → placesOf ms ≡ replicate 32 (ended (fresh 0)) → stateOf (set (set ms 0 c) 1 0) ≡ opened c
 unfolding placesOf entries
 state-opened ms c whole e =
     let us : List ℕ = set ms 0 c in
@@ -163,19 +172,11 @@ state-opened ms c whole e =
     let none : getD (set us 1 0) 1 0 ≡ 0 = getD-set-same us 1 0 0 (omega (arith, length-set ms 0 c)) in
     rw (clock, none, desk, e)
 
--- ---- every call
-pub data InRange : Call → Type 0 where
-  start : InRange Start
-  read : {n k : ℕ} → InRange (Read n k)
-  note : {n k o : ℕ} → InRange (Note n k o)
-  write : {n k : ℕ} {v : ℤ} → SFits w32 v → InRange (Write n k v)
-  tune : {n k1 k2 k3 : ℕ} → k1 < 65536 → k2 < 65536 → k3 < 65536 → InRange (Tune n k1 k2 k3)
-  distance : {n i : ℕ} → InRange (Distance n i)
-  abort : {n : ℕ} → InRange (Abort n)
-  commit : {n : ℕ} → InRange (Commit n)
-  message : {t : ℕ} → InRange (Message t)
-  latest : {k : ℕ} → InRange (Newest k)
+-- "Opening a master gives the clock's first value": a master opened over any words is the first state of a session
+pub opens : (ws : List ℕ) (c : ℕ) → length ws ≡ 19170 → stateOf (openedWords ws c) ≡ opened c
+opens ws c whole = state-opened (cleared ws 32) c (length-cleared ws whole 32) (all-spare (cleared ws 32) (ended (fresh 0)) (spare-at ws whole 32 (omega arith)))
 
+-- ---- every call
 good-tuned : (t : Transaction) (k1 k2 k3 : ℕ) → k1 < 65536 → k2 < 65536 → k3 < 65536 → Good t → Good (tuned t (triple k1 k2 k3))
 good-tuned t k1 k2 k3 h1 h2 h3 g = record { reads = g .reads; writes = g .writes; k1 = h1; k2 = h2; k3 = h3; values = g .values }
 
@@ -275,3 +276,89 @@ module _ (ws : List ℕ) (whole : length ws ≡ 19170) where
   state-after (Commit n) commit = state-commit ws whole n
   state-after (Message t) message = state-message t
   state-after (Newest k) latest = state-newest k
+
+-- ---- a session on one memory
+
+-- what holds of the words that a reply of a kind leaves, and of those that any other leaves, holds of the words after
+module _ (P : List ℕ → Type 0) {other : List ℕ} where
+  on-started : {f : ℕ → List ℕ} → ((m : ℕ) → P (f m)) → P other → (r : Reply) → P (onStarted f other r)
+  on-started h o (refused n) = o
+  on-started h o (started m) = h m
+  on-started h o (version v) = o
+  on-started h o (own z) = o
+  on-started h o done = o
+  on-started h o (apartBy d) = o
+  on-started h o (committed t) = o
+  on-started h o (aborted q) = o
+  on-started h o (made es) = o
+  on-started h o (madeBy t) = o
+
+  on-version : {f : Version → List ℕ} → ((v : Version) → P (f v)) → P other → (r : Reply) → P (onVersion f other r)
+  on-version h o (refused n) = o
+  on-version h o (started m) = o
+  on-version h o (version v) = h v
+  on-version h o (own z) = o
+  on-version h o done = o
+  on-version h o (apartBy d) = o
+  on-version h o (committed t) = o
+  on-version h o (aborted q) = o
+  on-version h o (made es) = o
+  on-version h o (madeBy t) = o
+
+  on-done : {f : List ℕ} → P f → P other → (r : Reply) → P (onDone f other r)
+  on-done h o (refused n) = o
+  on-done h o (started m) = o
+  on-done h o (version v) = o
+  on-done h o (own z) = o
+  on-done h o done = h
+  on-done h o (apartBy d) = o
+  on-done h o (committed t) = o
+  on-done h o (aborted q) = o
+  on-done h o (made es) = o
+  on-done h o (madeBy t) = o
+
+  on-commit : {f : ℕ → List ℕ} {g : List ℕ} → ((m : ℕ) → P (f m)) → P g → P other → (r : Reply) → P (onCommit f g other r)
+  on-commit h k o (refused n) = o
+  on-commit h k o (started m) = o
+  on-commit h k o (version v) = o
+  on-commit h k o (own z) = o
+  on-commit h k o done = o
+  on-commit h k o (apartBy d) = o
+  on-commit h k o (committed t) = h t
+  on-commit h k o (aborted q) = k
+  on-commit h k o (made es) = o
+  on-commit h k o (madeBy t) = o
+
+length-change : (ws : List ℕ) (c : Call) (r : Reply) → length (change ws c r) ≡ length ws
+unfolding change
+length-change ws Start r =
+    on-started (λ (us : List ℕ). length us ≡ length ws) (λ m. length-set (stored ws (freePlace (placesOf ws)) (fresh m)) 0 m ∙ length-stored ws (freePlace (placesOf ws)) (fresh m)) refl r
+length-change ws (Read n k) r = on-version (λ (us : List ℕ). length us ≡ length ws) (λ v. length-stored ws (at ws n) (recorded (loaded ws (at ws n)) (marked k v))) refl r
+length-change ws (Note n k o) r = on-version (λ (us : List ℕ). length us ≡ length ws) (λ v. length-stored ws (at ws n) (recorded (loaded ws (at ws n)) (marked k v))) refl r
+length-change ws (Write n k v) r = on-done (λ (us : List ℕ). length us ≡ length ws) (length-stored ws (at ws n) (written (loaded ws (at ws n)) k v)) refl r
+length-change ws (Tune n k1 k2 k3) r = on-done (λ (us : List ℕ). length us ≡ length ws) (length-stored ws (at ws n) (tuned (loaded ws (at ws n)) (triple k1 k2 k3))) refl r
+length-change ws (Distance n i) r = refl
+length-change ws (Abort n) r = on-done (λ (us : List ℕ). length us ≡ length ws) (length-set ws (baseOf (at ws n) + 1) 0) refl r
+length-change ws (Commit n) r =
+    on-commit (λ (us : List ℕ). length us ≡ length ws)
+    (λ m. let vs : List ℕ = installed ws m (writesOf (loaded ws (at ws n))) in
+    length-set (closed vs (at ws n)) 0 m ∙ length-set vs (baseOf (at ws n) + 1) 0 ∙ length-installed (writesOf (loaded ws (at ws n))) ws m)
+    (length-set ws (baseOf (at ws n) + 1) 0)
+    refl
+    r
+length-change ws (Message t) r = refl
+length-change ws (Newest k) r = refl
+
+-- calls one behind the other on one memory reach the state of the session, and answer its replies
+pub played-state : (cs : List Call) (ws : List ℕ) → length ws ≡ 19170 → Every InRange cs → stateOf (played ws cs) ≡ reached (stateOf ws) cs
+unfolding played reached
+played-state [] ws whole none = refl
+played-state (c ∷ cs) ws whole (also h hs) =
+    played-state cs (after ws c) (length-change ws c (step (stateOf ws) c .reply) ∙ whole) hs ∙ ap (λ (s : State). reached s cs) (state-after ws whole c h)
+
+pub played-replies : (cs : List Call) (ws : List ℕ) → length ws ≡ 19170 → Every InRange cs → answered ws cs ≡ replies (stateOf ws) cs
+unfolding answered replies
+played-replies [] ws whole none = refl
+played-replies (c ∷ cs) ws whole (also h hs) =
+    ap (λ (rs : List Reply). step (stateOf ws) c .reply ∷ rs)
+    (played-replies cs (after ws c) (length-change ws c (step (stateOf ws) c .reply) ∙ whole) hs ∙ ap (λ (s : State). replies s cs) (state-after ws whole c h))

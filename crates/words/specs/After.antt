@@ -1,10 +1,13 @@
 -- The words of the memory after each call, every one of them, from the call's reply: a refusal leaves them all.
-use Prim.Native.Nat.{ℕ, _+_}
-use mathlib.Core.List.{List}
+use Prim.Native.Nat.{ℕ, zero, suc, _+_, _<_}
+use mathlib.Core.List.{List, [], _∷_}
+use lib.IntN.{ℤ}
 use lib.ListN.{set}
+use mir.Syntax.{w32}
+use mir.Val.{SFits}
 use Rattle.units.specs.Bounds.{triple}
 use Rattle.units.specs.declared.Version.{Version}
-use Rattle.transaction.specs.Transaction.{recorded, writesOf, fresh, written, tuned}
+use Rattle.transaction.specs.Transaction.{recorded, writesOf, fresh, ended, written, tuned}
 use Rattle.model.specs.State.{placeOf, freePlace}
 use Rattle.model.specs.Call.{Call, Start, Read, Note, Write, Tune, Distance, Abort, Commit, Message, Newest, Reply, refused, started, version, own, done, apartBy, committed, aborted, made, madeBy}
 use Rattle.model.specs.Step.{step, marked}
@@ -83,3 +86,34 @@ change ws (Newest k) r = ws
 
 abbrev pub after : List ℕ → Call → List ℕ
 after ws c = change ws c (step (stateOf ws) c .reply)
+
+-- the desk with nobody at its first n places
+unfoldable pub cleared : List ℕ → ℕ → List ℕ
+cleared ws zero = ws
+cleared ws (suc n) = stored (cleared ws n) n (ended (fresh 0))
+
+-- "Opening a master gives the clock's first value, any 32-bit number": whatever the words were, nobody is at the desk and the log is empty
+abbrev pub openedWords : List ℕ → ℕ → List ℕ
+openedWords ws c = set (set (cleared ws 32) 0 c) 1 0
+
+-- calls, one behind the other, on one memory whose words nobody else changes: the words after them, and what each answers
+unfoldable pub played : List ℕ → List Call → List ℕ
+played ws [] = ws
+played ws (c ∷ cs) = played (after ws c) cs
+
+unfoldable pub answered : List ℕ → List Call → List Reply
+answered ws [] = []
+answered ws (c ∷ cs) = step (stateOf ws) c .reply ∷ answered (after ws c) cs
+
+-- the numbers that the code's types hold: a value of 32 bits, bounds of 16
+pub data InRange : Call → Type 0 where
+  start : InRange Start
+  read : {n k : ℕ} → InRange (Read n k)
+  note : {n k o : ℕ} → InRange (Note n k o)
+  write : {n k : ℕ} {v : ℤ} → SFits w32 v → InRange (Write n k v)
+  tune : {n k1 k2 k3 : ℕ} → k1 < 65536 → k2 < 65536 → k3 < 65536 → InRange (Tune n k1 k2 k3)
+  distance : {n i : ℕ} → InRange (Distance n i)
+  abort : {n : ℕ} → InRange (Abort n)
+  commit : {n : ℕ} → InRange (Commit n)
+  message : {t : ℕ} → InRange (Message t)
+  latest : {k : ℕ} → InRange (Newest k)
