@@ -8,9 +8,10 @@ use mathlib.Core.List.{List, map}
 use Rattle.lists.specs.Lists.{Every}
 use Rattle.lists.specs.Members.{In}
 use Rattle.model.specs.Log.{Entry, versionOf, newest}
-use Rattle.model.specs.State.{State}
-use Rattle.model.specs.Call.{Message, Newest, Reply, committed, made, madeBy}
+use Rattle.model.specs.State.{State, opened}
+use Rattle.model.specs.Call.{Call, Message, Newest, Reply, committed, made, madeBy}
 use Rattle.model.specs.Step.{step}
+use Rattle.model.specs.Session.{reached}
 use Rattle.versions.specs.Batch.{itemOf}
 use Rattle.message.specs.Line.{lineOf}
 use Rattle.comparison.specs.Comparison.{isBehind, howMany}
@@ -18,7 +19,7 @@ use Rattle.comparison.specs.declared.Compared.{Compared}
 use Rattle.comparison.specs.declared.Compared.the-variants.{Behind}
 use Rattle.copy.specs.Copy.{held, ordinalsOf}
 use Rattle.copy.specs.declared.Copy.{Copy}
-use Rattle.delivery.specs.Sent.{messageAt}
+use Rattle.delivery.specs.Sent.{messageAt, Sent}
 
 -- "a 64-bit word with a one for each key that is behind"
 abbrev pub Named : ℕ → ℕ → Type 0
@@ -55,16 +56,16 @@ pub record Given (s : State) (k : ℕ) (line : List ℕ) : Type 0 where
   pub same : newest (s .log) k ≡ versionOf entry
   pub text : line ≡ lineOf stamp (map itemOf versions)
 
-pub record ForNamed (log : List Entry) (word : ℕ) (line : List ℕ) : Type 0 where
-  pub key : ℕ
-  pub within : key ≤ 63
-  pub named : Named word key
-  pub text : line ≡ newestMessage log key
+-- what may come after the comparison, in a session of these calls: the message of a named key's newest version, or any other that this
+-- master sent until then, be it old or come before
+pub data Coming (opening : ℕ) (calls : List Call) (word : ℕ) : List ℕ → Type 0 where
+  asked : (k : ℕ) → k ≤ 63 → Named word k → Coming opening calls word (newestMessage (reached (opened opening) calls .log) k)
+  other : {line : List ℕ} → Sent opening calls line → Coming opening calls word line
 
--- "one message for each named key, in any order"; some may come again
-pub record OneForEach (log : List Entry) (word : ℕ) (lines : List (List ℕ)) : Type 0 where
-  pub only : Every (ForNamed log word) lines
-  pub each : (k : ℕ) → k ≤ 63 → Named word k → In (newestMessage log k) lines
+-- "one message for each named key, in any order", with others of this master in between, and any of them again
+pub record OneForEach (opening : ℕ) (calls : List Call) (word : ℕ) (lines : List (List ℕ)) : Type 0 where
+  pub only : Every (Coming opening calls word) lines
+  pub each : (k : ℕ) → k ≤ 63 → Named word k → In (newestMessage (reached (opened opening) calls .log) k) lines
 
 -- "no commit comes between": none of these replies is of a granted commit
 abbrev pub NoCommit : List Reply → Type 0
