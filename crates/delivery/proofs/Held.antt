@@ -37,7 +37,7 @@ came-from (arrive.here {x = x} {xs = xs} q e) (also c cs) =
       entry = c .entry;
       there = c .there;
       key = ap (λ (y : Arrival). y .item .key) (sym (c .same)) ∙ q;
-      same = e ∙ ap (λ (y : Arrival). copy.versionOf (y .stamp) (y .item)) (c .same);
+      same = e ∙ ap (λ (y : Arrival). copy.carriedVersion (y .stamp) (y .item)) (c .same);
       arrived = subst (λ (y : Arrival). In y (x ∷ xs)) (c .same) here;
     }
 came-from (arrive.later m) (also c cs) =

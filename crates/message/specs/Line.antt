@@ -21,8 +21,8 @@ abbrev pub itemsText : List Item → List ℕ
 itemsText items = joined itemText items
 
 -- 112 is `p`, 10 the newline
-unfoldable pub lineOf : ℕ → List Item → List ℕ
-lineOf stamp items = 112 ∷ (field (pos stamp) ++ itemsText items ++ (10 ∷ []))
+unfoldable pub messageText : ℕ → List Item → List ℕ
+messageText stamp items = 112 ∷ (field (pos stamp) ++ itemsText items ++ (10 ∷ []))
 
 -- ---- the form
 
@@ -33,13 +33,13 @@ pub record InRanges (i : Item) : Type 0 where
   pub last : i .ordinal .0 ≤ 4096
   pub value : InRange values (i .value)
 
-abbrev pub named : ℕ → Item → Bool
-named k i = eqb (i .key) k
+abbrev pub isOfKey : ℕ → Item → Bool
+isOfKey k i = eqb (i .key) k
 
 -- "no key twice"
 unfoldable pub distinct : List Item → Bool
 distinct [] = true
-distinct (i ∷ is) = not (any (named (i .key)) is) && distinct is
+distinct (i ∷ is) = not (any (isOfKey (i .key)) is) && distinct is
 
 -- the stamps of document 01 that a commit can have, and "1 to 16 versions; no key twice"
 pub record InForm (stamp : ℕ) (items : List Item) : Type 0 where

@@ -44,15 +44,15 @@ itemAt s at =
 unfoldable pub endsAt : List ℕ → ℕ → Bool
 endsAt s at = eqb (getD s at 0) 10 && eqb (at + 1) (length s)
 
-unfoldable pub closed : ℕ → List Item → Reading
-closed stamp items = cond (distinct items) (whole stamp items) bad
+unfoldable pub ifDistinct : ℕ → List Item → Reading
+ifDistinct stamp items = cond (distinct items) (whole stamp items) bad
 
 -- the versions from a place on, where those before it were seen and `left` more are allowed
 unfoldable pub itemsAt : ℕ → ℕ → List ℕ → ℕ → List Item → Reading
 itemsAt stamp zero s at seen = bad
 itemsAt stamp (suc left) s at seen =
     onPiece (itemAt s at) (λ i e.
-    cond (endsAt s e) (closed stamp (seen ++ (i ∷ []))) (itemsAt stamp left s e (seen ++ (i ∷ []))))
+    cond (endsAt s e) (ifDistinct stamp (seen ++ (i ∷ []))) (itemsAt stamp left s e (seen ++ (i ∷ []))))
     bad
 
 unfoldable pub readLine : List ℕ → Reading
@@ -70,5 +70,22 @@ unfoldable pub messageOf : Reading → Message
 messageOf (whole stamp items) = message stamp (batchOf items)
 messageOf bad = noMessage
 
-unfoldable pub closedMessage : ℕ → Batch → Message
-closedMessage stamp b = cond (distinct (itemsOf b)) (message stamp b) noMessage
+unfoldable pub messageIfDistinct : ℕ → Batch → Message
+messageIfDistinct stamp b = cond (distinct (itemsOf b)) (message stamp b) noMessage
+
+-- ---- the same in document 01's numbers: the stamp and the versions that the line says, or 10, "message line not of the form above"
+
+pub data LineReply : Type 0 where
+  says : (stamp : ℕ) → List Item → LineReply
+  refused : (number : ℕ) → LineReply
+
+abbrev pub formReply : Form → ℕ → List Item → LineReply
+formReply Form.Whole stamp items = says stamp items
+formReply Form.Bad stamp items = refused 10
+
+abbrev pub lineReply : Message → LineReply
+lineReply m = formReply (m .form) (m .stamp .0) (itemsOf (m .batch))
+
+abbrev pub readingReply : Reading → LineReply
+readingReply (whole stamp items) = says stamp items
+readingReply bad = refused 10
