@@ -2,3 +2,4 @@
 pub mod Steps
 pub mod Newest
 pub mod Determined
+pub mod Refused

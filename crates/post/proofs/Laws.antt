@@ -28,7 +28,7 @@ use Rattle.message.specs.Write.{MessageReply, refused, textReply, messageReply}
 use Rattle.message.specs.declared.write.MessageAnswer.{MessageAnswer}
 use Rattle.message.specs.declared.write.MessageAnswer.the-variants.{Refused}
 use Rattle.delivery.specs.Sent.{messageAt}
-use Rattle.post.specs.Post.{posted, roomAfter}
+use Rattle.post.specs.Post.{posted, postedRoom}
 use Rattle.post.proofs.Order.{none-made, some-made, none-posts, some-posts}
 
 abbrev number : Reply → ℕ
@@ -43,24 +43,24 @@ module _ (m : Master) (log : List Entry) (st : ℕ) (a : MadeAnswer) (e : steppe
       go true = refl
       go false = refl
 
-  pub refused-sends : (f : Refusal) (room : List ℕ) → a ≡ MadeAnswer.Refused f → (messageReply (Refused f) ≡ posted log st room) × (room ≡ roomAfter log st room)
+  pub refused-sends : (f : Refusal) (room : List ℕ) → a ≡ MadeAnswer.Refused f → (messageReply (Refused f) ≡ posted log st room) × (room ≡ postedRoom log st room)
   refused-sends f room h = go (eqb (length (madeAt log st)) 0) refl (sym (ap (λ (x : MadeAnswer). number (madeReply x (madeAt log st))) h) ∙ said)
     where
-      go : (t : Bool) → eqb (length (madeAt log st)) 0 ≡ t → numberOf f ≡ cond t 18 0 → (messageReply (Refused f) ≡ posted log st room) × (room ≡ roomAfter log st room)
+      go : (t : Bool) → eqb (length (madeAt log st)) 0 ≡ t → numberOf f ≡ cond t 18 0 → (messageReply (Refused f) ≡ posted log st room) × (room ≡ postedRoom log st room)
       go true q n =
           let p = none-posts log st room (none-made log st (madeAt log st) refl (eqb-true (length (madeAt log st)) 0 q)) in
           (ap refused n ∙ sym (p .0), sym (p .1))
       go false q n = absurd (omega (arith, number-pos f))
 
   pub made-sends : (b : Batch) (room after : List ℕ) (r : MessageAnswer) → a ≡ MadeAnswer.Made → b ≡ batchOf (madeAt log st) → messageReply r ≡ textReply room (messageText st (itemsOf b))
-      → after ≡ put room 0 (messageText st (itemsOf b)) → (messageReply r ≡ posted log st room) × (after ≡ roomAfter log st room)
+      → after ≡ put room 0 (messageText st (itemsOf b)) → (messageReply r ≡ posted log st room) × (after ≡ postedRoom log st room)
   unfolding messageAt
   made-sends b room after r h g w x = go (eqb (length (madeAt log st)) 0) refl (sym (ap (λ (y : MadeAnswer). number (madeReply y (madeAt log st))) h) ∙ said)
     where
       line : messageText st (itemsOf b) ≡ messageAt log st
       line = ap (messageText st) (ap itemsOf g ∙ items-of-batch (madeAt log st))
 
-      go : (t : Bool) → eqb (length (madeAt log st)) 0 ≡ t → _≡_ {A = ℕ} 0 (cond t 18 0) → (messageReply r ≡ posted log st room) × (after ≡ roomAfter log st room)
+      go : (t : Bool) → eqb (length (madeAt log st)) 0 ≡ t → _≡_ {A = ℕ} 0 (cond t 18 0) → (messageReply r ≡ posted log st room) × (after ≡ postedRoom log st room)
       go true q n = absurd (omega arith)
       go false q n =
           let p = some-posts log st room (some-made log st (madeAt log st) refl (eqb-false (length (madeAt log st)) 0 q)) in

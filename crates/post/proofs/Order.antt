@@ -19,7 +19,7 @@ use Rattle.decimal.specs.Write.{put}
 use Rattle.decimal.proofs.Writing.{put-room, put-full}
 use Rattle.message.specs.Write.{MessageReply, bytes, refused, textReply}
 use Rattle.delivery.specs.Sent.{messageAt}
-use Rattle.post.specs.Post.{posted, roomAfter, NoneAt, SomeAt, Sends, nothing, tooLong, sends}
+use Rattle.post.specs.Post.{posted, postedRoom, NoneAt, SomeAt, Sends, nothing, tooLong, sends}
 
 module _ (log : List Entry) (stamp : ℕ) where
   pub none-made : (es : List Entry) → madeAt log stamp ≡ es → length es ≡ 0 → NoneAt log stamp
@@ -44,16 +44,16 @@ module _ (log : List Entry) (stamp : ℕ) where
     line = messageAt log stamp
 
     -- where nothing was written, 18, and the room plays no part
-    pub none-posts : NoneAt log stamp → (posted log stamp room ≡ refused 18) × (roomAfter log stamp room ≡ room)
-    unfolding posted roomAfter
+    pub none-posts : NoneAt log stamp → (posted log stamp room ≡ refused 18) × (postedRoom log stamp room ≡ room)
+    unfolding posted postedRoom
     none-posts n = (rw (eq-eqb (length (madeAt log stamp)) 0 (made-nothing n)), rw (eq-eqb (length (madeAt log stamp)) 0 (made-nothing n)))
 
     -- else the message is to go to the room
-    pub some-posts : SomeAt log stamp → (posted log stamp room ≡ textReply room line) × (roomAfter log stamp room ≡ put room 0 line)
-    unfolding posted roomAfter
+    pub some-posts : SomeAt log stamp → (posted log stamp room ≡ textReply room line) × (postedRoom log stamp room ≡ put room 0 line)
+    unfolding posted postedRoom
     some-posts s = (rw (ne-eqb (length (madeAt log stamp)) 0 (made-some s)), rw (ne-eqb (length (madeAt log stamp)) 0 (made-some s)))
 
-    posts : {r : MessageReply} {after : List ℕ} → Sends log stamp room r after → (posted log stamp room ≡ r) × (roomAfter log stamp room ≡ after)
+    posts : {r : MessageReply} {after : List ℕ} → Sends log stamp room r after → (posted log stamp room ≡ r) × (postedRoom log stamp room ≡ after)
     unfolding textReply
     posts (nothing n) = none-posts n
     posts (tooLong s h) = (some-posts s .0 ∙ rw (lt-leb (length line) (length room) h), some-posts s .1 ∙ put-full room 0 line (omega arith))
@@ -62,21 +62,21 @@ module _ (log : List Entry) (stamp : ℕ) where
       some-posts s .1 ∙ put-room room 0 line (omega arith) ∙ ap (λ (k : ℕ). line ++ drop k room) (zero-add (length line)),
     )
 
-    as-posted : {r : MessageReply} {after : List ℕ} → Sends log stamp room r after → Sends log stamp room (posted log stamp room) (roomAfter log stamp room)
+    as-posted : {r : MessageReply} {after : List ℕ} → Sends log stamp room r after → Sends log stamp room (posted log stamp room) (postedRoom log stamp room)
     as-posted {r} {after} s =
-        subst (λ (q : MessageReply). Sends log stamp room q (roomAfter log stamp room)) (sym (posts s .0)) (subst (Sends log stamp room r) (sym (posts s .1)) s)
+        subst (λ (q : MessageReply). Sends log stamp room q (postedRoom log stamp room)) (sym (posts s .0)) (subst (Sends log stamp room r) (sym (posts s .1)) s)
 
     -- one of the three
-    one-of : Dec (length (madeAt log stamp) ≡ 0) → Dec (length room < length line) → Sends log stamp room (posted log stamp room) (roomAfter log stamp room)
+    one-of : Dec (length (madeAt log stamp) ≡ 0) → Dec (length room < length line) → Sends log stamp room (posted log stamp room) (postedRoom log stamp room)
     one-of (yes e) d = as-posted (nothing (none-made (madeAt log stamp) refl e))
     one-of (no n) (yes h) = as-posted (tooLong (some-made (madeAt log stamp) refl n) h)
     one-of (no n) (no h) = as-posted (sends (some-made (madeAt log stamp) refl n) (omega arith))
 
-    sent : Sends log stamp room (posted log stamp room) (roomAfter log stamp room)
+    sent : Sends log stamp room (posted log stamp room) (postedRoom log stamp room)
     sent = one-of (ℕ-discrete (length (madeAt log stamp)) 0) (decLt (length room) (length line))
 
     -- "Exactly when", for the reply and the room at once
-    pub send-exactly : (r : MessageReply) (after : List ℕ) → ((posted log stamp room ≡ r) × (roomAfter log stamp room ≡ after)) ↔ Sends log stamp room r after
+    pub send-exactly : (r : MessageReply) (after : List ℕ) → ((posted log stamp room ≡ r) × (postedRoom log stamp room ≡ after)) ↔ Sends log stamp room r after
     send-exactly r after = (λ e. subst (λ (q : MessageReply). Sends log stamp room q after) (e .0) (subst (Sends log stamp room (posted log stamp room)) (e .1) sent), posts)
 
     -- "18: message asked for a stamp at which no commit wrote anything", whatever the room
@@ -98,7 +98,7 @@ module _ (log : List Entry) (stamp : ℕ) where
         go (sends s h) e = let z : _≡_ {A = ℕ} 0 1 = cc in absurd (omega arith)
 
     -- a refusal leaves the room as it was
-    pub refused-room : (n : ℕ) → posted log stamp room ≡ refused n → roomAfter log stamp room ≡ room
+    pub refused-room : (n : ℕ) → posted log stamp room ≡ refused n → postedRoom log stamp room ≡ room
     refused-room n e = go sent e
       where
         go : {r : MessageReply} {after : List ℕ} → Sends log stamp room r after → r ≡ refused n → after ≡ room

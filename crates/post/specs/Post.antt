@@ -17,8 +17,8 @@ unfoldable pub posted : List Entry → ℕ → List ℕ → MessageReply
 posted log stamp room = cond (eqb (length (madeAt log stamp)) 0) (refused 18) (textReply room (messageAt log stamp))
 
 -- "the rest of its buffer is untouched", and the whole of it where the call is refused
-unfoldable pub roomAfter : List Entry → ℕ → List ℕ → List ℕ
-roomAfter log stamp room = cond (eqb (length (madeAt log stamp)) 0) room (put room 0 (messageAt log stamp))
+unfoldable pub postedRoom : List Entry → ℕ → List ℕ → List ℕ
+postedRoom log stamp room = cond (eqb (length (madeAt log stamp)) 0) room (put room 0 (messageAt log stamp))
 
 -- ---- the same in words of the log
 

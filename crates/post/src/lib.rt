@@ -2,7 +2,7 @@
 ghost use mathlib.Core.Path.{_≡_};
 ghost use Rattle.master.specs.Master.{logAt};
 ghost use Rattle.message.specs.Write.{messageReply};
-ghost use Rattle.post.specs.Post.{posted, roomAfter};
+ghost use Rattle.post.specs.Post.{posted, postedRoom};
 use desk::Master;
 use master::MadeAnswer;
 use message::MessageAnswer;
@@ -20,7 +20,7 @@ pub fn send(
     room: &mut [u8],
 ) -> MessageAnswer
     ensures reply { λ r. ⌜ messageReply r ≡ posted (logAt (now (keys .entry)) (now (ordinals .entry)) (now (stamps .entry)) (now (values .entry)) (master .length)) (stamp .0) (now (room .entry)) ⌝ }
-    ensures buffer { λ _. ⌜ now (room .exit) ≡ roomAfter (logAt (now (keys .entry)) (now (ordinals .entry)) (now (stamps .entry)) (now (values .entry)) (master .length)) (stamp .0) (now (room .entry)) ⌝ }
+    ensures buffer { λ _. ⌜ now (room .exit) ≡ postedRoom (logAt (now (keys .entry)) (now (ordinals .entry)) (now (stamps .entry)) (now (values .entry)) (master .length)) (stamp .0) (now (room .entry)) ⌝ }
 {
     let made = master::made(keys, ordinals, stamps, values, master, stamp);
     let answer = made.answer;
