@@ -3,3 +3,4 @@ pub mod Steps
 pub mod Newest
 pub mod Determined
 pub mod Refused
+pub mod Replaced

@@ -4,10 +4,7 @@ use native.Mathlib.Decide.{decLt, ℕ-discrete}
 use native.Mathlib.Omega.{arith}
 use mathlib.Core.Path.{_≡_, refl, sym, ap, _∙_, subst}
 use mathlib.Core.Logic.{_⊎_, inl, inr}
-use mathlib.Core.Bool.{Bool, true, false, cond}
 use mathlib.Core.List.{List, [], _∷_, _++_, map}
-use borrow.Author.Tests.{ltb-true, ltb-false, eqb-true, eqb-false}
-use lib.Dec.{ltb, eqb}
 use lib.ListN.{length, getD, length-set}
 use lib.Seq.{getD-set-same, getD-set-other, set-out}
 use Rattle.units.specs.Version.{startVersion}
@@ -18,18 +15,17 @@ use Rattle.message.specs.Read.{Reading, whole, bad, readLine}
 use Rattle.copy.specs.Copy.{held, carriedVersion, replaced, takeItem, takeItems, takeReading, takeLine}
 use Rattle.copy.specs.Arrivals.{Arrival, arrival, takeAll, takeLines, carried, arrivals, Came, here, later}
 use Rattle.copy.specs.declared.Copy.{Copy}
-use Rattle.copy.proofs.Steps.{item-outside}
+use Rattle.copy.proofs.Steps.{item-newer, item-older, item-outside}
 
 -- ---- one arrival
 
 module _ (c : Copy) (s : ℕ) (i : Item) where
   item-by : (P : Copy → Type 0) → (held c (i .key) .ordinal .0 < i .ordinal .0 → P (replaced c s i)) → (i .ordinal .0 ≤ held c (i .key) .ordinal .0 → P c) → P (takeItem c s i)
-  unfolding takeItem
-  item-by P new old = go (ltb (held c (i .key) .ordinal .0) (i .ordinal .0)) refl
+  item-by P new old = go (decLt (held c (i .key) .ordinal .0) (i .ordinal .0))
     where
-      go : (t : Bool) → ltb (held c (i .key) .ordinal .0) (i .ordinal .0) ≡ t → P (cond t (replaced c s i) c)
-      go true h = new (ltb-true (held c (i .key) .ordinal .0) (i .ordinal .0) h)
-      go false h = old (ltb-false (held c (i .key) .ordinal .0) (i .ordinal .0) h)
+      go : Dec (held c (i .key) .ordinal .0 < i .ordinal .0) → P (takeItem c s i)
+      go (yes h) = subst P (sym (item-newer c s i h)) (new h)
+      go (no h) = let l : i .ordinal .0 ≤ held c (i .key) .ordinal .0 = omega arith in subst P (sym (item-older c s i l)) (old l)
 
   pub item-length : length (takeItem c s i .versions) ≡ length (c .versions)
   item-length = item-by (λ d. length (d .versions) ≡ length (c .versions)) (λ h. length-set (c .versions) (i .key) (carriedVersion s i)) (λ h. refl)

@@ -6,6 +6,7 @@ use mathlib.Core.Path.{_≡_, refl, sym, ap, _∙_}
 use mathlib.Core.Bool.{Bool, true, false, cond}
 use mathlib.Core.List.{List, [], _∷_, _++_, map}
 use lib.Dec.{ltb}
+use borrow.Author.Tests.{lt-ltb, le-ltb}
 use lib.ListN.{length, getD, set, take, drop, length-map, drop-of-length-le, List·getD-map}
 use lib.Seq.{drop-cons, set-out, take-suc, take-suc-set, take-all}
 use Rattle.units.specs.Version.{startVersion}
@@ -24,13 +25,14 @@ use Rattle.copy.specs.declared.Copy.{Copy}
 -- ---- one version
 
 module _ (c : Copy) (stamp : ℕ) (i : Item) where
-  pub item-newer : ltb (held c (i .key) .ordinal .0) (i .ordinal .0) ≡ true → replaced c stamp i ≡ takeItem c stamp i
+  -- "it replaces its own exactly if the message's ordinal is greater"
+  pub item-older : i .ordinal .0 ≤ held c (i .key) .ordinal .0 → takeItem c stamp i ≡ c
   unfolding takeItem
-  item-newer h = rw h
+  item-older h = ap (λ (t : Bool). cond t (replaced c stamp i) c) (le-ltb (held c (i .key) .ordinal .0) (i .ordinal .0) h)
 
-  pub item-older : ltb (held c (i .key) .ordinal .0) (i .ordinal .0) ≡ false → c ≡ takeItem c stamp i
+  pub item-newer : held c (i .key) .ordinal .0 < i .ordinal .0 → takeItem c stamp i ≡ replaced c stamp i
   unfolding takeItem
-  item-older h = rw h
+  item-newer h = ap (λ (t : Bool). cond t (replaced c stamp i) c) (lt-ltb (held c (i .key) .ordinal .0) (i .ordinal .0) h)
 
   -- no such key
   pub item-outside : length (c .versions) ≤ i .key → c ≡ takeItem c stamp i

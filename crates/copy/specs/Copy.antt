@@ -1,6 +1,7 @@
 -- A hall's copy. Document 01: "A copy holds ordinal, stamp and value for each key, and a read there answers all three. A fresh copy
 -- has the start versions. For each version in a message it replaces its own exactly if the message's ordinal is greater".
-use Prim.Native.Nat.{ℕ}
+use Prim.Native.Nat.{ℕ, _≤_, _<_}
+use mathlib.Core.Path.{_≡_}
 use mathlib.Core.Bool.{cond}
 use mathlib.Core.List.{List, [], _∷_, map}
 use lib.Dec.{ltb}
@@ -79,3 +80,8 @@ takeReading c bad = record { reply = refused 10; copy = c }
 
 unfoldable pub takeLine : Copy → List ℕ → TakeStep
 takeLine c line = takeReading c (readLine line)
+
+-- "For each version in a message it replaces its own exactly if the message's ordinal is greater": the copy before and after, at the version's key
+pub record Replaces (before after : Copy) (stamp : ℕ) (i : Item) : Type 0 where
+  pub newer : held before (i .key) .ordinal .0 < i .ordinal .0 → held after (i .key) ≡ carriedVersion stamp i
+  pub older : i .ordinal .0 ≤ held before (i .key) .ordinal .0 → held after (i .key) ≡ held before (i .key)

@@ -3,17 +3,15 @@
 use Prim.Native.Nat.{ℕ, suc, _≤_, _<_}
 use native.Mathlib.Decide.{decLt}
 use native.Mathlib.Omega.{arith}
-use mathlib.Core.Path.{_≡_, refl, sym, _∙_, ap}
+use mathlib.Core.Path.{_≡_, refl, sym, _∙_, ap, subst}
 use mathlib.Core.Logic.{_≢_, _↔_}
-use mathlib.Core.Bool.{true, false}
 use mathlib.Core.List.{List, [], _∷_, _++_, map}
 use lib.ListN.{length, take, length-map}
 use lib.Seq.{take-all}
-use borrow.Author.Tests.{ne-eqb}
 use Rattle.lists.specs.Lists.{Every, none, also}
-use Rattle.lists.specs.Members.{In, here, below, Distinct, apart}
-use Rattle.lists.proofs.Every.{every-map, every-append, any-none}
-use Rattle.lists.proofs.Images.{every-image, image-every}
+use Rattle.lists.specs.Members.{In, here, below, Distinct}
+use Rattle.lists.proofs.Every.{every-map, every-append}
+use Rattle.lists.proofs.Images.{every-image}
 use Rattle.lists.proofs.Members.{every-in, in-every, in-left, in-right, in-map}
 use Rattle.units.specs.declared.Item.{Item}
 use Rattle.model.specs.Log.{Entry, madeAt}
@@ -29,7 +27,7 @@ use Rattle.model.proofs.Granted.{message-none, message-whole}
 use Rattle.model.proofs.Reached.{good-reached}
 use Rattle.model.proofs.Sent.{made-stays}
 use Rattle.versions.specs.Batch.{itemOf}
-use Rattle.message.specs.Line.{messageText, InRanges, isOfKey, distinct, InForm}
+use Rattle.message.specs.Line.{messageText, InRanges, InForm}
 use Rattle.message.specs.Read.{Reading, whole, readLine}
 use Rattle.message.proofs.Exactly.{line-back}
 use Rattle.copy.specs.Copy.{done, takeReading, takeLine}
@@ -78,15 +76,9 @@ carried-whole : {r : Reading} {stamp : ℕ} {items : List Item} → r ≡ whole 
 unfolding carried
 carried-whole e = rw e
 
--- "no key twice"
-distinct-items : (es : List Entry) → Distinct (map (λ (e : Entry). e .key) es) → distinct (map itemOf es) ≡ true
-unfolding distinct
-distinct-items [] d = refl
-distinct-items (e ∷ es) (apart n d) =
-    rw (
-      any-none (isOfKey (e .key)) (every-image (λ (i : Item). isOfKey (e .key) i ≡ false) itemOf (every-map (λ (f : Entry) h. ne-eqb (f .key) (e .key) h) (image-every (λ (k : ℕ). k ≢ e .key) (λ (f : Entry). f .key) es n))),
-      distinct-items es d,
-    )
+keys-items : (es : List Entry) → map (λ (i : Item). i .key) (map itemOf es) ≡ map (λ (e : Entry). e .key) es
+keys-items [] = refl
+keys-items (e ∷ es) = ap (λ (ks : List ℕ). e .key ∷ ks) (keys-items es)
 
 module _ {opening : ℕ} (s : State) (g : Good opening s) where
   -- no commit made more than 16 versions
@@ -138,7 +130,7 @@ module _ {opening : ℕ} (s : State) (g : Good opening s) where
               some = omega arith;
               few = omega arith;
               ranges = every-image InRanges itemOf (in-every (λ (f : Entry). InRanges (itemOf f)) (madeAt (s .log) t) (in-ranges t));
-              apart = distinct-items (madeAt (s .log) t) (made-once (g .history) t);
+              apart = subst Distinct (sym (keys-items (madeAt (s .log) t))) (made-once (g .history) t);
             }
 
     module _ {line : List ℕ} (m : MessageOf (s .log) line) where

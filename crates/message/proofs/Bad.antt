@@ -12,8 +12,8 @@ use Rattle.decimal.specs.Text.{isDigit, spelt, decimal, plain, field, joined}
 use Rattle.decimal.specs.Read.{more, digits, unsigned, negative, fieldAt, asNatural, naturalAt, asSigned, signedAt, naturalBehindTab, signedBehindTab, onNumber}
 use Rattle.decimal.proofs.Reading.{Stops, after, reads-at, reads-one}
 use Rattle.decimal.proofs.Bad.{upTo, in-upTo}
-use Rattle.message.specs.Line.{itemText, itemsText, messageText, distinct, InForm}
-use Rattle.message.specs.Read.{whole, bad, onValue, onPiece, itemAt, endsAt, ifDistinct, itemsAt, readLine}
+use Rattle.message.specs.Line.{itemText, itemsText, messageText, InForm}
+use Rattle.message.specs.Read.{whole, bad, onValue, onPiece, itemAt, endsAt, distinct, ifDistinct, itemsAt, readLine}
 use Rattle.message.proofs.Exactly.{bad-exactly}
 use Rattle.message.proofs.Items.{stops-items}
 

@@ -2,16 +2,19 @@
 use Prim.Native.Nat.{ℕ, zero, suc, _+_, _≤_}
 use native.Mathlib.Omega.{arith}
 use mathlib.Core.Path.{_≡_, refl, sym, ap, _∙_}
-use mathlib.Core.Logic.{_↔_}
-use mathlib.Core.Bool.{Bool, true, false, cond, _&&_}
-use mathlib.Core.List.{List, [], _∷_, _++_, append-assoc, append-nil}
-use borrow.Author.Tests.{eq-eqb, ne-eqb, eqb-true}
+use mathlib.Core.Logic.{_↔_, _≢_}
+use mathlib.Core.Bool.{Bool, true, false, cond, not, _&&_, true≢false}
+use mathlib.Core.List.{List, [], _∷_, _++_, map, append-assoc, append-nil}
+use borrow.Author.Tests.{eq-eqb, ne-eqb, eqb-true, eqb-false}
 use lib.Dec.{eqb}
 use lib.IntN.{pos}
 use lib.ListN.{length, getD, drop, take, length-drop, drop-of-length-le}
 use Rattle.units.proofs.Batches.{batch-items}
 use Rattle.units.specs.declared.Item.{Item}
-use Rattle.lists.specs.Lists.{Every, none, also}
+use Rattle.lists.specs.Lists.{any, Every, none, also}
+use Rattle.lists.specs.Members.{Distinct, empty, apart}
+use Rattle.lists.proofs.Every.{every-map, any-none, none-any}
+use Rattle.lists.proofs.Images.{every-image, image-every}
 use Rattle.decimal.specs.Text.{field, joined}
 use Rattle.decimal.specs.Read.{naturals, naturalBehindTab, onNumber, Tabbed}
 use Rattle.decimal.specs.Write.{Puts}
@@ -19,14 +22,35 @@ use Rattle.decimal.specs.declared.read.Natural.{Natural}
 use Rattle.decimal.proofs.Reading.{after, head-of}
 use Rattle.decimal.proofs.Tabs.{byte-stands, natural-tabbed, tabbed-stands, tabbed-at, Took, number-took}
 use Rattle.decimal.proofs.Putting.{puts-front}
-use Rattle.message.specs.Line.{itemText, itemsText, messageText, InRanges, distinct, InForm}
-use Rattle.message.specs.Read.{Reading, whole, bad, onPiece, itemAt, endsAt, ifDistinct, itemsAt, readLine, messageOf, says, lineReply, readingReply}
+use Rattle.message.specs.Line.{itemText, itemsText, messageText, InRanges, InForm}
+use Rattle.message.specs.Read.{Reading, whole, bad, isOfKey, distinct, onPiece, itemAt, endsAt, ifDistinct, itemsAt, readLine, messageOf, says, lineReply, readingReply}
 use Rattle.message.specs.declared.read.Message.{Message}
 use Rattle.message.specs.declared.read.Piece.{Piece}
 use Rattle.message.proofs.Items.{ItemAt, item-reads, item-back, piece-took, stops-items}
 
 no-reading : {A : Type 0} (stamp : ℕ) (items : List Item) → bad ≡ whole stamp items → A
 no-reading stamp items q = let z : _≡_ {A = ℕ} 0 1 = cc in absurd (omega arith)
+
+-- ---- "no key twice"
+
+distinct-apart : (items : List Item) → distinct items ≡ true → Distinct (map (λ (i : Item). i .key) items)
+unfolding distinct
+distinct-apart [] h = empty
+distinct-apart (i ∷ is) h = go (any (isOfKey (i .key)) is) refl h (distinct-apart is)
+  where
+    go : (t : Bool) → any (isOfKey (i .key)) is ≡ t → (not t && distinct is) ≡ true → (distinct is ≡ true → Distinct (map (λ (j : Item). j .key) is)) → Distinct (i .key ∷ map (λ (j : Item). j .key) is)
+    go true e h r = absurd (true≢false (sym h))
+    go false e h r =
+        apart (every-image (λ (k : ℕ). k ≢ i .key) (λ (j : Item). j .key) (every-map (λ (j : Item) q. eqb-false (j .key) (i .key) q) (none-any (isOfKey (i .key)) is e))) (r h)
+
+apart-distinct : (items : List Item) → Distinct (map (λ (i : Item). i .key) items) → distinct items ≡ true
+unfolding distinct
+apart-distinct [] d = refl
+apart-distinct (i ∷ is) (apart n d) =
+    rw (any-none (isOfKey (i .key)) (every-map (λ (j : Item) h. ne-eqb (j .key) (i .key) h) (image-every (λ (k : ℕ). k ≢ i .key) (λ (j : Item). j .key) is n)), apart-distinct is d)
+
+pub distinct-exactly : (items : List Item) → (distinct items ≡ true) ↔ Distinct (map (λ (i : Item). i .key) items)
+distinct-exactly items = (distinct-apart items, apart-distinct items)
 
 -- ---- the end of the line
 
@@ -165,7 +189,7 @@ module _ (s : List ℕ) (stamp : ℕ) (items : List Item) where
               some = rw (r .all) (r .some);
               few = rw (r .all) (r .few);
               ranges = rw (r .all) (r .ranges);
-              apart = r .apart;
+              apart = distinct-exactly items .0 (r .apart);
             },
           )
 
@@ -194,7 +218,7 @@ line-back stamp items f =
     tabbed-at s 1 (naturals 1 4294967295) (pos stamp) (itemsText items ++ (10 ∷ [])) text (stops-items items []) (f .early, f .late) in
     let left : drop (1 + length (field (pos stamp))) s ≡ itemsText items ++ (10 ∷ []) = after s (field (pos stamp)) (itemsText items ++ (10 ∷ [])) 1 text in
     rw (line-starts stamp items, natural-tabbed s 1 1 4294967295 stamp (1 + length (field (pos stamp))) .1 t)
-    (items-back stamp s 16 (1 + length (field (pos stamp))) [] items left (f .ranges) (f .some) (f .few) (f .apart))
+    (items-back stamp s 16 (1 + length (field (pos stamp))) [] items left (f .ranges) (f .some) (f .few) (distinct-exactly items .1 (f .apart)))
 
 -- the form of document 01, both ways
 pub exactly : (s : List ℕ) (stamp : ℕ) (items : List Item) → (readLine s ≡ whole stamp items) ↔ ((s ≡ messageText stamp items) × InForm stamp items)

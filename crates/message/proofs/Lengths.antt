@@ -12,8 +12,8 @@ use Rattle.decimal.specs.Read.{naturalAt, signedAt, asNatural, asSigned, fieldA
 use Rattle.decimal.specs.Text.{field, joined, decimal, spelt, isDigit}
 use Rattle.decimal.proofs.Digits.{decimal-length, decimal-32, plain-32}
 use Rattle.decimal.proofs.Values.{value-small}
-use Rattle.message.specs.Line.{itemText, itemsText, messageText, distinct, InRanges, InForm, longest}
-use Rattle.message.specs.Read.{whole, readLine, itemsAt, itemAt, onValue, onPiece, endsAt, ifDistinct}
+use Rattle.message.specs.Line.{itemText, itemsText, messageText, InRanges, InForm, longest}
+use Rattle.message.specs.Read.{whole, readLine, itemsAt, itemAt, onValue, onPiece, endsAt, distinct, ifDistinct}
 
 pub item-length : (i : Item) → length (itemText i) ≡ length (field (pos (i .key))) + length (field (pos (i .ordinal .0))) + length (field (i .value))
 unfolding itemText

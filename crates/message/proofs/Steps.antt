@@ -21,8 +21,8 @@ use Rattle.decimal.specs.declared.read.Natural.{Natural}
 use Rattle.decimal.specs.declared.read.Signed.{Signed}
 use Rattle.decimal.proofs.Values.{value-small}
 use Rattle.decimal.proofs.Tabs.{signed-tabbed}
-use Rattle.message.specs.Line.{isOfKey, distinct, noItem, batchOf}
-use Rattle.message.specs.Read.{Reading, whole, bad, onValue, onPiece, itemAt, endsAt, ifDistinct, itemsAt, readLine, message, noMessage, messageOf, messageIfDistinct}
+use Rattle.message.specs.Line.{noItem, batchOf}
+use Rattle.message.specs.Read.{Reading, whole, bad, isOfKey, distinct, onValue, onPiece, itemAt, endsAt, ifDistinct, itemsAt, readLine, message, noMessage, messageOf, messageIfDistinct}
 use Rattle.message.specs.declared.read.Message.{Message}
 use Rattle.message.specs.declared.read.Piece.{Piece}
 

@@ -1,16 +1,17 @@
 -- Reading a message line, from its front, and each number with its range. Document 01: "Here and in a message, a number out of
 -- its range is not of the form".
 use Prim.Native.Nat.{ℕ, zero, suc, _+_}
-use mathlib.Core.Bool.{Bool, cond, _&&_}
+use mathlib.Core.Bool.{Bool, true, cond, not, _&&_}
 use mathlib.Core.List.{List, [], _∷_, _++_}
 use lib.Dec.{eqb}
 use lib.IntN.{ℤ}
 use lib.ListN.{length, getD}
+use Rattle.lists.specs.Lists.{any}
 use Rattle.units.specs.declared.Item.{Item}
 use Rattle.units.specs.declared.Batch.{Batch}
 use Rattle.decimal.specs.Read.{naturalBehindTab, signedBehindTab, onNumber}
 use Rattle.decimal.specs.declared.read.Signed.{Signed}
-use Rattle.message.specs.Line.{distinct, itemsOf, batchOf}
+use Rattle.message.specs.Line.{itemsOf, batchOf}
 use Rattle.message.specs.declared.read.Form.{Form}
 use Rattle.message.specs.declared.read.Message.{Message}
 use Rattle.message.specs.declared.read.Piece.{Piece}
@@ -39,6 +40,14 @@ itemAt s at =
     onValue (signedBehindTab s b) (λ v e.
     Piece.At (record { key = k; ordinal = record { 0 = o }; value = v }) e)
     Piece.Bad) Piece.Bad) Piece.Bad
+
+abbrev pub isOfKey : ℕ → Item → Bool
+isOfKey k i = eqb (i .key) k
+
+-- "no key twice"
+unfoldable pub distinct : List Item → Bool
+distinct [] = true
+distinct (i ∷ is) = not (any (isOfKey (i .key)) is) && distinct is
 
 -- the newline at a place, and nothing behind it
 unfoldable pub endsAt : List ℕ → ℕ → Bool

@@ -4,7 +4,8 @@ use native.Mathlib.Omega.{arith}
 use mathlib.Core.Path.{_≡_, refl, sym, _∙_}
 use borrow.Author.Needs.{needs}
 use lib.ListN.{length, drop}
-use Rattle.message.specs.Line.{distinct, itemsOf}
+use Rattle.message.specs.Line.{itemsOf}
+use Rattle.message.specs.Read.{distinct}
 use Rattle.message.proofs.Batches.{batch-at}
 use Rattle.message.proofs.Steps.{distinct-over, distinct-twice, distinct-on}
 use Rattle.message.proofs.read.all_distinct.Statement.{statement}

@@ -7,7 +7,8 @@ use borrow.Author.Tests.{eq-eqb, ne-eqb}
 use lib.ListN.{length, drop}
 use Rattle.lists.specs.Lists.{any}
 use Rattle.lists.proofs.Any.{any-over, any-hit, any-miss}
-use Rattle.message.specs.Line.{isOfKey, itemsOf, noItem}
+use Rattle.message.specs.Line.{itemsOf, noItem}
+use Rattle.message.specs.Read.{isOfKey}
 use Rattle.message.proofs.Batches.{batch-at}
 use Rattle.message.proofs.read.key_from.Statement.{statement}
 use Rattle.message.proofs.read.key_from.Tie as tie
