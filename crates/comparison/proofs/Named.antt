@@ -9,7 +9,6 @@ use mathlib.Core.Bool.{Bool, true, false, cond, _||_, true≢false}
 use mathlib.Core.List.{List, [], _∷_}
 use borrow.Author.Tests.{ltb-true, lt-ltb}
 use lib.ListN.{length}
-use Rattle.lists.specs.Lists.{Every}
 use Rattle.lists.specs.Members.{In, here, below, Distinct, empty, apart}
 use Rattle.lists.proofs.Members.{in-nothing, in-one, in-append, in-every}
 use Rattle.units.specs.declared.Ordinal.{Ordinal}

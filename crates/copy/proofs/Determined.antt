@@ -3,7 +3,6 @@ use Prim.Native.Nat.{ℕ}
 use native.Mathlib.Omega.{arith}
 use mathlib.Core.Path.{_≡_, refl, ap}
 use Rattle.units.specs.Refusal.{numberOf}
-use Rattle.units.specs.declared.Version.{Version}
 use Rattle.units.proofs.Numbers.{number-inj}
 use Rattle.copy.specs.Copy.{TakeStep, heldReply, takeReply, takeStep}
 use Rattle.copy.specs.declared.Copy.{Copy}

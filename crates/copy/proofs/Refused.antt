@@ -10,7 +10,7 @@ use Rattle.units.specs.declared.Item.{Item}
 use Rattle.message.specs.Line.{messageText, InForm}
 use Rattle.message.specs.Read.{Reading, whole, bad, readLine}
 use Rattle.message.proofs.Exactly.{bad-exactly}
-use Rattle.copy.specs.Copy.{CopyReply, refused, version, done, held, readOf, takeReading, takeLine}
+use Rattle.copy.specs.Copy.{refused, version, held, readOf, takeReading, takeLine}
 use Rattle.copy.specs.declared.Copy.{Copy}
 
 module _ (c : Copy) where

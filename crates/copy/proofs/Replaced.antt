@@ -1,6 +1,6 @@
 -- What a line of the form does to a copy: each of its versions replaces the copy's own exactly if its ordinal is greater, and every other key
 -- stays. Every copy of 64 keys is taken.
-use Prim.Native.Nat.{ℕ, _≤_, _<_}
+use Prim.Native.Nat.{ℕ, _<_}
 use native.Mathlib.Omega.{arith}
 use mathlib.Core.Path.{_≡_, refl, sym, ap, _∙_, subst}
 use mathlib.Core.Logic.{_≢_}

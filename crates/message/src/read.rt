@@ -4,7 +4,7 @@ ghost use mathlib.Core.Path.{_≡_};
 ghost use mathlib.Core.List.{[]};
 ghost use lib.ListN.{drop};
 ghost use Rattle.lists.specs.Lists.{any};
-ghost use Rattle.message.specs.Line.{itemsOf, batchOf};
+ghost use Rattle.message.specs.Line.{itemsOf};
 ghost use Rattle.message.specs.Read.{isOfKey, distinct, itemAt, endsAt, itemsAt, readLine, messageOf, noMessage, messageIfDistinct, lineReply, readingReply};
 use crate::LETTER;
 use crate::size;

@@ -3,7 +3,7 @@ use Prim.Native.Nat.{ℕ}
 use native.Mathlib.Omega.{arith}
 use mathlib.Core.Path.{_≡_, refl, sym, _∙_, ap}
 use mathlib.Core.Bool.{Bool, true, false, cond}
-use mathlib.Core.List.{List, map}
+use mathlib.Core.List.{List}
 use lib.Dec.{eqb}
 use borrow.Author.Tests.{eqb-true, eqb-false}
 use lib.ListN.{length, take}
@@ -20,11 +20,11 @@ use Rattle.desk.specs.declared.Master.{Master}
 use Rattle.desk.specs.Desk.{stateOf, stepped}
 use Rattle.master.specs.Master.{madeReply}
 use Rattle.master.specs.declared.MadeAnswer.{MadeAnswer}
-use Rattle.versions.specs.Batch.{batchOf, itemOf}
+use Rattle.versions.specs.Batch.{batchOf}
 use Rattle.versions.proofs.Gathering.{items-of-batch}
 use Rattle.decimal.specs.Write.{put}
 use Rattle.message.specs.Line.{messageText, itemsOf}
-use Rattle.message.specs.Write.{MessageReply, refused, textReply, messageReply}
+use Rattle.message.specs.Write.{refused, textReply, messageReply}
 use Rattle.message.specs.declared.write.MessageAnswer.{MessageAnswer}
 use Rattle.message.specs.declared.write.MessageAnswer.the-variants.{Refused}
 use Rattle.delivery.specs.Sent.{messageAt}

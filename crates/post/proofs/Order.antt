@@ -1,13 +1,11 @@
 -- Message: 18, 17. Each reply of `send` and the room after it, exactly when. Every log is taken.
-use Prim.Native.Nat.{ℕ, _≤_, _<_}
+use Prim.Native.Nat.{ℕ, _<_}
 use native.Mathlib.Decide.{decLt, ℕ-discrete}
 use native.Mathlib.Nat.{zero-add}
 use native.Mathlib.Omega.{arith}
 use mathlib.Core.Path.{_≡_, refl, sym, _∙_, ap, subst}
 use mathlib.Core.Logic.{_↔_, _≢_}
-use mathlib.Core.Bool.{Bool, true, false, cond}
 use mathlib.Core.List.{List, [], _∷_, _++_}
-use lib.Dec.{eqb}
 use lib.ListN.{length, drop}
 use borrow.Author.Tests.{eq-eqb, ne-eqb, le-leb, lt-leb}
 use Rattle.lists.specs.Lists.{Every}
@@ -17,7 +15,7 @@ use Rattle.model.specs.Log.{Entry, madeAt}
 use Rattle.model.proofs.Made.{made-none, made-in, in-made}
 use Rattle.decimal.specs.Write.{put}
 use Rattle.decimal.proofs.Writing.{put-room, put-full}
-use Rattle.message.specs.Write.{MessageReply, bytes, refused, textReply}
+use Rattle.message.specs.Write.{MessageReply, refused, textReply}
 use Rattle.delivery.specs.Sent.{messageAt}
 use Rattle.post.specs.Post.{posted, postedRoom, NoneAt, SomeAt, Sends, nothing, tooLong, sends}
 
