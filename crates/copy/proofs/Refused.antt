@@ -7,7 +7,7 @@ use mathlib.Core.Logic.{_↔_}
 use mathlib.Core.List.{List}
 use borrow.Author.Tests.{lt-ltb, le-ltb}
 use Rattle.units.specs.declared.Item.{Item}
-use Rattle.message.specs.Line.{messageText, InForm}
+use Rattle.message.specs.Line.{messageText, IsMessage}
 use Rattle.message.specs.Read.{Reading, whole, bad, readLine}
 use Rattle.message.proofs.Exactly.{bad-exactly}
 use Rattle.copy.specs.Copy.{refused, version, held, readOf, takeReading, takeLine}
@@ -33,7 +33,7 @@ module _ (c : Copy) where
 
   module _ (line : List ℕ) where
     -- "10: message line not of the form above"
-    pub ten-exactly : (takeLine c line .reply ≡ refused 10) ↔ ((stamp : ℕ) (items : List Item) → InForm stamp items → line ≡ messageText stamp items → ⊥)
+    pub ten-exactly : (takeLine c line .reply ≡ refused 10) ↔ ((stamp : ℕ) (items : List Item) → IsMessage stamp items → line ≡ messageText stamp items → ⊥)
     unfolding takeLine takeReading
     ten-exactly = (λ e. bad-exactly line .0 (to (readLine line) refl e), λ n. rw (bad-exactly line .1 n))
       where

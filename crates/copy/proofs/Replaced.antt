@@ -13,7 +13,7 @@ use Rattle.lists.proofs.Images.{image-every}
 use Rattle.lists.proofs.Members.{every-in, in-every, in-map}
 use Rattle.units.specs.Version.{startVersion}
 use Rattle.units.specs.declared.Item.{Item}
-use Rattle.message.specs.Line.{messageText, InRanges, InForm}
+use Rattle.message.specs.Line.{messageText, InRanges, IsMessage}
 use Rattle.message.proofs.Exactly.{line-back}
 use Rattle.copy.specs.Copy.{TakeStep, done, held, carriedVersion, takeItem, takeItems, takeReading, takeLine, Replaces}
 use Rattle.copy.specs.declared.Copy.{Copy}
@@ -41,7 +41,7 @@ items-replace c stamp (j ∷ is) (apart n d) i (below m) l =
     items-replace (takeItem c stamp j) stamp is d i m (subst (λ (k : ℕ). i .key < k) (sym (item-length c stamp j)) l) in
     record { newer = λ h. r .newer (rw same h); older = λ h. r .older (rw same h) ∙ same }
 
-module _ (c : Copy) (full : length (c .versions) ≡ 64) (stamp : ℕ) (items : List Item) (form : InForm stamp items) where
+module _ (c : Copy) (full : length (c .versions) ≡ 64) (stamp : ℕ) (items : List Item) (form : IsMessage stamp items) where
   abbrev line : List ℕ
   line = messageText stamp items
 

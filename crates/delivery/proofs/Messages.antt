@@ -27,7 +27,7 @@ use Rattle.model.proofs.Granted.{message-none, message-whole}
 use Rattle.model.proofs.Reached.{good-reached}
 use Rattle.model.proofs.Sent.{made-stays}
 use Rattle.versions.specs.Batch.{itemOf}
-use Rattle.message.specs.Line.{messageText, InRanges, InForm}
+use Rattle.message.specs.Line.{messageText, InRanges, IsMessage}
 use Rattle.message.specs.Read.{Reading, whole, readLine}
 use Rattle.message.proofs.Exactly.{line-back}
 use Rattle.copy.specs.Copy.{done, takeReading, takeLine}
@@ -112,10 +112,10 @@ module _ {opening : ℕ} (s : State) (g : Good opening s) where
         record { key = every-in (made-keys (g .history) t) (in-map (λ (e : Entry). e .key) i); first = o .0; last = omega (arith, o .1); value = every-in (r .log) there }
 
     -- every message is of the form of document 01
-    pub in-form : (t : ℕ) → madeAt (s .log) t ≢ [] → InForm t (map itemOf (madeAt (s .log) t))
+    pub in-form : (t : ℕ) → madeAt (s .log) t ≢ [] → IsMessage t (map itemOf (madeAt (s .log) t))
     in-form t h = go (madeAt (s .log) t) refl
       where
-        go : (es : List Entry) → madeAt (s .log) t ≡ es → InForm t (map itemOf (madeAt (s .log) t))
+        go : (es : List Entry) → madeAt (s .log) t ≡ es → IsMessage t (map itemOf (madeAt (s .log) t))
         go [] q = absurd (h q)
         go (e ∷ es) q =
             let i : In e (madeAt (s .log) t) = rw q here in

@@ -13,7 +13,7 @@ use Rattle.model.specs.Call.{Call, Message, made}
 use Rattle.model.specs.Step.{step}
 use Rattle.model.specs.Session.{reached}
 use Rattle.versions.specs.Batch.{itemOf}
-use Rattle.message.specs.Line.{messageText, InForm}
+use Rattle.message.specs.Line.{messageText, IsMessage}
 use Rattle.message.specs.Read.{whole, readLine}
 use Rattle.copy.specs.Copy.{done, takeLine}
 use Rattle.copy.specs.declared.Copy.{Copy}
@@ -46,7 +46,7 @@ pub record Answered (s : State) (line : List ℕ) : Type 0 where
 -- stamp made, which are versions of the log
 pub record Carries (log : List Entry) (line : List ℕ) : Type 0 where
   pub stamp : ℕ
-  pub form : InForm stamp (map itemOf (madeAt log stamp))
+  pub form : IsMessage stamp (map itemOf (madeAt log stamp))
   pub reads : readLine line ≡ whole stamp (map itemOf (madeAt log stamp))
   pub logged : Every (λ (e : Entry). In e log × (e .stamp ≡ stamp)) (madeAt log stamp)
   pub taken : (c : Copy) → takeLine c line .reply ≡ done

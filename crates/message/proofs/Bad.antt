@@ -12,7 +12,7 @@ use Rattle.decimal.specs.Text.{isDigit, spelt, decimal, plain, field, joined}
 use Rattle.decimal.specs.Read.{more, digits, unsigned, negative, fieldAt, asNatural, naturalAt, asSigned, signedAt, naturalBehindTab, signedBehindTab, onNumber}
 use Rattle.decimal.proofs.Reading.{Stops, after, reads-at, reads-one}
 use Rattle.decimal.proofs.Bad.{upTo, in-upTo}
-use Rattle.message.specs.Line.{itemText, itemsText, messageText, InForm}
+use Rattle.message.specs.Line.{itemText, itemsText, messageText, IsMessage}
 use Rattle.message.specs.Read.{whole, bad, onValue, onPiece, itemAt, endsAt, distinct, ifDistinct, itemsAt, readLine}
 use Rattle.message.proofs.Exactly.{bad-exactly}
 use Rattle.message.proofs.Items.{stops-items}
@@ -71,12 +71,12 @@ line-inj stamp was is js t u e =
     (c, b .0, b .1)
 
 -- the text of versions that are not of the form: a key twice, 17 of them, none, a number out of its range
-pub bad-form : (stamp : ℕ) (items : List Item) → (InForm stamp items → ⊥) → readLine (messageText stamp items) ≡ bad
+pub bad-form : (stamp : ℕ) (items : List Item) → (IsMessage stamp items → ⊥) → readLine (messageText stamp items) ≡ bad
 bad-form stamp items n =
     bad-exactly (messageText stamp items) .1
     (λ was js f e.
     let a : (stamp ≡ was) × (items ≡ js) × (_≡_ {A = List ℕ} [] []) = line-inj stamp was items js [] [] (append-nil (messageText stamp items) ∙ e ∙ sym (append-nil (messageText was js))) in
-    n (subst (λ (k : ℕ). InForm k items) (sym (a .0)) (subst (InForm was) (sym (a .1)) f)))
+    n (subst (λ (k : ℕ). IsMessage k items) (sym (a .0)) (subst (IsMessage was) (sym (a .1)) f)))
 
 -- anything behind the newline, a second newline too
 pub bad-behind : (stamp : ℕ) (items : List Item) (b : ℕ) (t : List ℕ) → readLine (messageText stamp items ++ (b ∷ t)) ≡ bad

@@ -22,7 +22,7 @@ use Rattle.decimal.specs.declared.read.Natural.{Natural}
 use Rattle.decimal.proofs.Reading.{after, head-of}
 use Rattle.decimal.proofs.Tabs.{byte-stands, natural-tabbed, tabbed-stands, tabbed-at, Took, number-took}
 use Rattle.decimal.proofs.Putting.{puts-front}
-use Rattle.message.specs.Line.{itemText, itemsText, messageText, InRanges, InForm}
+use Rattle.message.specs.Line.{itemText, itemsText, messageText, InRanges, IsMessage}
 use Rattle.message.specs.Read.{Reading, whole, bad, isOfKey, distinct, onPiece, itemAt, endsAt, ifDistinct, itemsAt, readLine, messageOf, says, lineReply, readingReply}
 use Rattle.message.specs.declared.read.Message.{Message}
 use Rattle.message.specs.declared.read.Piece.{Piece}
@@ -171,11 +171,11 @@ module _ (stamp : ℕ) (s : List ℕ) where
 -- ---- the line
 
 module _ (s : List ℕ) (stamp : ℕ) (items : List Item) where
-  line-reads : readLine s ≡ whole stamp items → (s ≡ messageText stamp items) × InForm stamp items
+  line-reads : readLine s ≡ whole stamp items → (s ≡ messageText stamp items) × IsMessage stamp items
   unfolding readLine messageText
   line-reads q = go (eqb (getD s 0 0) 112) refl q
     where
-      line-is : (was e : ℕ) → eqb (getD s 0 0) 112 ≡ true → Tabbed (naturals 1 4294967295) s 1 (pos was) e → ReadOn was 16 s e [] stamp items → (s ≡ messageText stamp items) × InForm stamp items
+      line-is : (was e : ℕ) → eqb (getD s 0 0) 112 ≡ true → Tabbed (naturals 1 4294967295) s 1 (pos was) e → ReadOn was 16 s e [] stamp items → (s ≡ messageText stamp items) × IsMessage stamp items
       line-is was e h t r =
           let first : s ≡ 112 ∷ drop 1 s = byte-stands s 0 112 (omega arith) (eqb-true (getD s 0 0) 112 h) .here in
           let text : drop 1 s ≡ field (pos was) ++ itemsText items ++ (10 ∷ []) =
@@ -193,7 +193,7 @@ module _ (s : List ℕ) (stamp : ℕ) (items : List Item) where
             },
           )
 
-      go : (t : Bool) → eqb (getD s 0 0) 112 ≡ t → cond t (onNumber (naturalBehindTab s 1 1 4294967295) (λ was e. itemsAt was 16 s e []) bad) bad ≡ whole stamp items → (s ≡ messageText stamp items) × InForm stamp items
+      go : (t : Bool) → eqb (getD s 0 0) 112 ≡ t → cond t (onNumber (naturalBehindTab s 1 1 4294967295) (λ was e. itemsAt was 16 s e []) bad) bad ≡ whole stamp items → (s ≡ messageText stamp items) × IsMessage stamp items
       go true h q =
           let t : Took Natural.Number (naturalBehindTab s 1 1 4294967295) (λ was e. itemsAt was 16 s e []) (whole stamp items) =
           number-took (naturalBehindTab s 1 1 4294967295) (λ was e. itemsAt was 16 s e []) bad (whole stamp items) (no-reading stamp items) q in
@@ -209,7 +209,7 @@ unfolding messageText
 line-behind stamp items = append-assoc (field (pos stamp)) (itemsText items) (10 ∷ [])
 
 -- reading what was written gives the same stamp and versions back
-pub line-back : (stamp : ℕ) (items : List Item) → InForm stamp items → readLine (messageText stamp items) ≡ whole stamp items
+pub line-back : (stamp : ℕ) (items : List Item) → IsMessage stamp items → readLine (messageText stamp items) ≡ whole stamp items
 unfolding readLine onNumber
 line-back stamp items f =
     let s : List ℕ = messageText stamp items in
@@ -221,15 +221,15 @@ line-back stamp items f =
     (items-back stamp s 16 (1 + length (field (pos stamp))) [] items left (f .ranges) (f .some) (f .few) (distinct-exactly items .1 (f .apart)))
 
 -- the form of document 01, both ways
-pub exactly : (s : List ℕ) (stamp : ℕ) (items : List Item) → (readLine s ≡ whole stamp items) ↔ ((s ≡ messageText stamp items) × InForm stamp items)
+pub exactly : (s : List ℕ) (stamp : ℕ) (items : List Item) → (readLine s ≡ whole stamp items) ↔ ((s ≡ messageText stamp items) × IsMessage stamp items)
 exactly s stamp items = (line-reads s stamp items, λ h. ap readLine (h .0) ∙ line-back stamp items (h .1))
 
 -- a line is refused exactly if it is no such text
-pub bad-exactly : (s : List ℕ) → (readLine s ≡ bad) ↔ ((stamp : ℕ) (items : List Item) → InForm stamp items → s ≡ messageText stamp items → ⊥)
+pub bad-exactly : (s : List ℕ) → (readLine s ≡ bad) ↔ ((stamp : ℕ) (items : List Item) → IsMessage stamp items → s ≡ messageText stamp items → ⊥)
 bad-exactly s =
     (λ q stamp items f e. no-reading stamp items (sym q ∙ exactly s stamp items .1 (e, f)), λ n. go (readLine s) refl n)
   where
-    go : (r : Reading) → readLine s ≡ r → ((stamp : ℕ) (items : List Item) → InForm stamp items → s ≡ messageText stamp items → ⊥) → readLine s ≡ bad
+    go : (r : Reading) → readLine s ≡ r → ((stamp : ℕ) (items : List Item) → IsMessage stamp items → s ≡ messageText stamp items → ⊥) → readLine s ≡ bad
     go (whole stamp items) q n = absurd (n stamp items (line-reads s stamp items q .1) (line-reads s stamp items q .0))
     go bad q n = q
 
@@ -248,5 +248,5 @@ pub message-answered : (s : List ℕ) {m : Message} → m ≡ messageOf (readLin
 message-answered s e = (ap lineReply e ∙ message-reply s, e)
 
 -- a message of the form that was put at the front of a room is read back from there
-pub written-back : {b c : List ℕ} {r : ℕ} (stamp : ℕ) (items : List Item) → InForm stamp items → Puts b c 0 (messageText stamp items) r → readLine (take r c) ≡ whole stamp items
+pub written-back : {b c : List ℕ} {r : ℕ} (stamp : ℕ) (items : List Item) → IsMessage stamp items → Puts b c 0 (messageText stamp items) r → readLine (take r c) ≡ whole stamp items
 written-back stamp items f p = ap readLine (puts-front p) ∙ line-back stamp items f

@@ -12,7 +12,7 @@ use Rattle.decimal.specs.Read.{naturalAt, signedAt, asNatural, asSigned, fieldA
 use Rattle.decimal.specs.Text.{field, joined, decimal, spelt, isDigit}
 use Rattle.decimal.proofs.Digits.{decimal-length, decimal-32, plain-32}
 use Rattle.decimal.proofs.Values.{value-small}
-use Rattle.message.specs.Line.{itemText, itemsText, messageText, InRanges, InForm, longest}
+use Rattle.message.specs.Line.{itemText, itemsText, messageText, InRanges, IsMessage, longest}
 use Rattle.message.specs.Read.{whole, readLine, itemsAt, itemAt, onValue, onPiece, endsAt, distinct, ifDistinct}
 
 pub item-length : (i : Item) → length (itemText i) ≡ length (field (pos (i .key))) + length (field (pos (i .ordinal .0))) + length (field (i .value))
@@ -41,7 +41,7 @@ unfolding messageText
 line-length stamp items = omega (arith, length-append (field (pos stamp) ++ itemsText items) (10 ∷ []), length-append (field (pos stamp)) (itemsText items))
 
 -- a message of the form
-pub line-of-form : (stamp : ℕ) (items : List Item) → InForm stamp items → length (messageText stamp items) ≤ longest
+pub line-of-form : (stamp : ℕ) (items : List Item) → IsMessage stamp items → length (messageText stamp items) ≤ longest
 line-of-form stamp items f = omega (arith, line-length stamp items, decimal-32 stamp (omega (arith, f .late)), items-of-form (f .ranges), f .few)
 
 -- and one that is as long: the last stamp, sixteen keys of two digits, each with the last ordinal and the lowest value

@@ -32,7 +32,7 @@ pub record InRanges (i : Item) : Type 0 where
   pub value : InRange values (i .value)
 
 -- the stamps of document 01 that a commit can have, and "1 to 16 versions; no key twice"
-pub record InForm (stamp : ℕ) (items : List Item) : Type 0 where
+pub record IsMessage (stamp : ℕ) (items : List Item) : Type 0 where
   pub early : 1 ≤ stamp
   pub late : stamp ≤ 4294967295
   pub some : 1 ≤ length items
