@@ -1,11 +1,19 @@
 """What both measures share: the programs, and runs of several commands on one input, in turn, with the best time of each."""
 import os
 import platform
+import shutil
 import subprocess
+import sys
 import tempfile
 import time
 
 top = os.path.dirname(os.path.dirname(os.path.abspath(__file__)))
+
+
+def build():
+    """Proves and builds what is missing or older than its sources; what is said meanwhile goes to standard error."""
+    if subprocess.run([os.path.join(top, "zoribhat"), "compare", "0", "0"], stdout=subprocess.DEVNULL).returncode:
+        sys.exit("bench: nothing is measured, since ./zoribhat compare 0 0, which builds both programs and the reference, has failed")
 
 
 def proved(name):
@@ -13,19 +21,32 @@ def proved(name):
 
 
 def reference(name):
-    """Built by ./zoribhat compare 0 0."""
     return [os.path.join(top, "target/reference"), name]
+
+
+def tool(name):
+    """A command of the machine."""
+    if not shutil.which(name):
+        sys.exit("bench: nothing is measured, since this machine has no %s to measure beside" % name)
+    return [name]
 
 
 def machine():
     return "%s, %d cores" % (platform.processor() or platform.machine(), os.cpu_count())
 
 
+def output(command, stdin=subprocess.DEVNULL):
+    run = subprocess.run(command, stdin=stdin, stdout=subprocess.PIPE)
+    if run.returncode:
+        sys.exit("bench: %s has failed" % " ".join(command))
+    return run.stdout
+
+
 def on_file(command, path):
     with open(path, "rb") as f:
         begin = time.perf_counter()
-        output = subprocess.run(command, stdin=f, stdout=subprocess.PIPE, check=True).stdout
-        return time.perf_counter() - begin, output
+        text = output(command, f)
+        return time.perf_counter() - begin, text
 
 
 def best(commands, text, runs):

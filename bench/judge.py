@@ -1,7 +1,7 @@
 #!/usr/bin/env python3
 """Judges two histories at document 01's limits, and 4,096 lines of ordinary work, beside the Rust reference and beside `wc`.
 
-    bench/judge.py      (after ./zoribhat compare 0 0 has built both)
+    bench/judge.py      (it builds both first, as ./zoribhat does)
 """
 import random
 import sys
@@ -46,10 +46,12 @@ def ordinary():
 
 HISTORIES = (("one transaction, 2,500 reads over 511 versions", one_reader()), ("511 open at once, four reads each", all_open()), ("4,096 lines of ordinary work", ordinary()), ("no lines", []))
 
+WC = beside.tool("wc")
+beside.build()
 print("%s; milliseconds with the start of the process, the best of %d runs" % (beside.machine(), RUNS))
 for name, lines in HISTORIES:
     text = "".join(line + "\n" for line in lines).encode()
-    (proved, reference, wc), (verdicts, others, _) = beside.best([beside.proved("judge"), beside.reference("judge"), ["wc"]], text, RUNS)
+    (proved, reference, wc), (verdicts, others, _) = beside.best([beside.proved("judge"), beside.reference("judge"), WC], text, RUNS)
     if not verdicts.split(b"\n")[-2].startswith(b"total ") or verdicts != others:
         sys.exit("%s: not judged to its end, or the two judge differently" % name)
     rates = (proved * 1000, len(lines) / proved, reference * 1000, len(lines) / reference, wc * 1000, proved / wc)

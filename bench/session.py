@@ -1,9 +1,8 @@
 #!/usr/bin/env python3
 """Plays two sessions with the proved program and with the Rust reference, and prints the steps a second of each.
 
-    bench/session.py      (after ./zoribhat compare 0 0 has built both)
+    bench/session.py      (it builds both first, as ./zoribhat does)
 """
-import subprocess
 import sys
 
 import beside
@@ -28,10 +27,10 @@ def full_log():
 
 def made_up():
     """A thousand sessions of the comparison, all words and refusals among them, most with a short log."""
-    sessions = [subprocess.run(beside.reference("generate") + ["session", str(seed)], stdout=subprocess.PIPE, check=True).stdout for seed in range(1, 1001)]
-    return b"".join(sessions)
+    return b"".join(beside.output(beside.reference("generate") + ["session", str(seed)]) for seed in range(1, 1001))
 
 
+beside.build()
 print("%s; the best of %d runs" % (beside.machine(), RUNS))
 for name, text in (("log full most of the time", full_log()), ("1,000 made-up sessions", made_up())):
     (proved, reference), (replies, others) = beside.best([beside.proved("session"), beside.reference("session")], text, RUNS)

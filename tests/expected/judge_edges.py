@@ -20,9 +20,20 @@ def judged(verdicts, totals):
     return "judge %d\n" % len(verdicts) + "".join("%d %s\n" % v for v in verdicts) + "total %d %d %d %d\n" % totals
 
 
+def second(verdict):
+    """Of two that commit, the first ok."""
+    return judged([(1, "ok"), (2, verdict)], (2, 2, 0, 0))
+
+
 P10 = line("s", 1) + line("s", 2) + line("w", 1, 5) + line("c", 1) + line("r", 2, 5, 1) + line("c", 2)
 P10_OUT = "judge 2\n1 ok\n2 FV\ntotal 2 2 0 0\n"
 EMPTY_OUT = "judge 0\ntotal 0 0 0 0\n"
+
+# 2 starts behind a version of key 5; it reads the start version, and commits
+STALE = line("s", 1) + line("w", 1, 5) + line("c", 1) + line("s", 2)
+STALE_END = line("r", 2, 5, 0) + line("c", 2)
+# P7 without its tune and without 1's commit
+TORN = line("s", 1) + line("s", 2) + line("w", 2, 5) + line("c", 2) + line("s", 4) + line("w", 4, 6) + line("c", 4) + line("r", 1, 5, 0) + line("r", 1, 6, 4)
 
 # the longest lines of the form, 27 bytes each, after a start of 13 bytes
 START = line("s", LAST)
@@ -60,6 +71,20 @@ CASES = [
     # "Empty input"; and P10, "Whole output"
     (ROOM, "", EMPTY_OUT),
     (ROOM, P10, P10_OUT),
+    # "the last one counts": 2 read one version behind its start, which k1 = 1 forbids and k1 = 2 allows
+    (ROOM, STALE + line("k", 2, 2, 0, 0) + line("k", 2, 1, 0, 0) + STALE_END, second("BV")),
+    (ROOM, STALE + line("k", 2, 1, 0, 0) + line("k", 2, 2, 0, 0) + STALE_END, second("ok")),
+    # "until its commit": also where it stands behind the read
+    (ROOM, STALE + line("k", 2, 1, 0, 0) + line("r", 2, 5, 0) + line("k", 2, 2, 0, 0) + line("c", 2), second("ok")),
+    # the same of k2 in P10, where 2 read one version past its start
+    (ROOM, P10.replace("r", line("k", 2, 1, 1, 0) + line("k", 2, 1, 0, 0) + "r"), P10_OUT),
+    (ROOM, P10.replace("r", line("k", 2, 1, 0, 0) + line("k", 2, 1, 1, 0) + "r"), second("ok")),
+    # the same of k3 in P7 as a history: one version of key 5 lies between the two versions that 1 read
+    (ROOM, TORN + line("k", 1, 1, 1, 1) + line("k", 1, 1, 1, 0) + line("c", 1), judged([(2, "ok"), (4, "ok"), (1, "SV")], (3, 3, 0, 0))),
+    (ROOM, TORN + line("k", 1, 1, 1, 0) + line("k", 1, 1, 1, 1) + line("c", 1), judged([(2, "ok"), (4, "ok"), (1, "ok")], (3, 3, 0, 0))),
+    # "else the default": 3 has a `k` line before and behind the start of 2, and 2 has none; then each has its own, and 3's stands last
+    (ROOM, line("s", 3) + line("k", 3, 2, 0, 0) + STALE + line("k", 3, 2, 0, 0) + STALE_END + line("c", 3), judged([(1, "ok"), (2, "BV"), (3, "ok")], (3, 3, 0, 0))),
+    (ROOM, line("s", 3) + STALE + line("k", 2, 1, 0, 0) + line("k", 3, 2, 0, 0) + STALE_END + line("c", 3), judged([(1, "ok"), (2, "BV"), (3, "ok")], (3, 3, 0, 0))),
     # 12: "history longer than 65,536 bytes"
     (ROOM, long_history(65536), judged([], (1, 0, 0, 1))),
     (ROOM, long_history(65537), "refused 12 0\n"),

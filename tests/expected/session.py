@@ -262,6 +262,20 @@ def steps():
     say("open 0")
     out.extend(["start"] * 33)
     out.extend(["abort 7", "start", "start", "abort 7", "commit 33"])
+    # the desk's last place, every call that names a transaction: 31 others are open all the time, so each start below takes the 32nd place
+    say("open 0")
+    out.extend(["start"] * 31)
+    # own read, the second write of a key, a granted commit that writes
+    out.extend(["start", "start", "tune 32 1 0 0", "write 32 5 7", "read 32 5", "note 32 5 0", "write 32 5 8", "read 32 5", "commit 32", "read 32 5"])
+    # one version recorded four times stands at four places, and the start version at a fifth; a granted commit by the bounds that were tuned
+    out.extend(["start", "read 34 5", "read 34 5", "note 34 5 1", "note 34 5 1", "note 34 5 0", "note 34 5 2", "tune 34 2 0 0", "tune 34 0 0 0", "write 34 6 -1", "read 34 64", "write 34 64 1"])
+    out.extend(["distance 34 %d" % i for i in range(6)] + ["commit 34", "distance 34 0"])
+    # one version fills all 16 places, and the 17th read of it gets 4; an abort, and the place is free
+    out.extend(["start"] + ["read 36 5"] * 17 + ["note 36 5 1", "distance 36 15", "abort 36", "abort 36"])
+    # aborted by BV, the place free again; then by FV and WC, the other that commits meanwhile being followed by one more at its own place
+    out.extend(["start", "note 37 5 1", "note 37 5 0", "distance 37 1", "commit 37", "commit 37"])
+    out.extend(["start", "start", "write 1 9 1", "commit 1", "start", "start", "read 38 9", "distance 38 0", "commit 38"])
+    out.extend(["start", "write 2 7 1", "commit 2", "start", "tune 41 1 0 65535", "write 41 20 1", "write 41 7 2", "commit 41", "start", "start"])
     # a start at the last clock but one gets the last stamp, the next gets 5; so does a commit, and its transaction stays open
     out.extend(["open 4294967294", "start", "start", "write 4294967295 5 1", "commit 4294967295", "read 4294967295 5", "abort 4294967295", "commit 4294967295"])
     out.extend(["open 4294967295", "start", "open 4294967293", "start", "write 4294967294 5 1", "commit 4294967294", "newest 5"])

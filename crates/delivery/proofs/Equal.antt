@@ -14,7 +14,7 @@ use Rattle.units.specs.declared.Version.{Version}
 use Rattle.model.specs.Log.{Entry, versionOf, newest, madeAt}
 use Rattle.model.specs.State.{State}
 use Rattle.model.specs.Call.{Newest, madeBy}
-use Rattle.model.specs.Step.{step, order}
+use Rattle.model.specs.Step.{step, checksOf, finalOf, order}
 use Rattle.model.specs.Reached.{Chain, Good, NewestOf, start, last}
 use Rattle.model.proofs.History.{chain, newest-is}
 use Rattle.model.proofs.Made.{in-made}
@@ -50,7 +50,7 @@ newest-entry (last e i q h) l = record { entry = e; there = i; key = q; same = r
 
 -- "For a key it also answers the stamp of the commit that made the newest version". Every state is taken.
 pub newest-answer : (s : State) (k : ℕ) → k ≤ 63 → step s (Newest k) .reply ≡ madeBy (newest (s .log) k .stamp .0)
-unfolding step order
+unfolding step checksOf finalOf order
 newest-answer s k h = rw (le-ltb 63 k h)
 
 module _ {opening : ℕ} (s : State) (g : Good opening s) where

@@ -13,9 +13,8 @@ use Rattle.model.specs.Log.{lookUp}
 use Rattle.model.specs.State.{State, transaction}
 use Rattle.model.specs.Call as call
 use Rattle.model.specs.Call.{Call, committed}
-use Rattle.model.specs.Step.{Step, step, reads, notes}
+use Rattle.model.specs.Step.{Step, step, finalOf, reads, notes}
 use Rattle.model.specs.Session.{reached, replies}
-use Rattle.model.specs.Checks.{finalOf}
 use Rattle.model.proofs.Refusals.{step-cases}
 use Rattle.delivery.specs.Named.{NoCommit}
 

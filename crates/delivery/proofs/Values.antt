@@ -23,9 +23,8 @@ use Rattle.model.specs.Log.{Entry, next, installed, newest, lookUp}
 use Rattle.model.specs.State.{State, opened, noTransaction, placeOf, transaction, freePlace, withTransaction}
 use Rattle.model.specs.Call as call
 use Rattle.model.specs.Call.{Call}
-use Rattle.model.specs.Step.{Step, step, reads, notes, marked, records}
+use Rattle.model.specs.Step.{Step, step, finalOf, reads, notes, marked, records}
 use Rattle.model.specs.Session.{reached}
-use Rattle.model.specs.Checks.{finalOf}
 use Rattle.model.proofs.Refusals.{step-cases}
 use Rattle.delivery.specs.Values.{Writable, WritesRanged, Ranged}
 

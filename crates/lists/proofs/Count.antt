@@ -60,15 +60,6 @@ module _ {A : Type 0} where
   count-none p none = refl
   count-none p (also e es) = rw e (count-none p es)
 
-  pub none-counted : (p : A → Bool) (l : List A) → count p l ≡ 0 → Every (λ (x : A). p x ≡ false) l
-  unfolding count
-  none-counted p [] h = none
-  none-counted p (x ∷ xs) h = go (p x) refl (none-counted p xs) h
-    where
-      go : (b : Bool) → p x ≡ b → (count p xs ≡ 0 → Every (λ (x : A). p x ≡ false) xs) → cond b (suc (count p xs)) (count p xs) ≡ 0 → Every (λ (x : A). p x ≡ false) (x ∷ xs)
-      go true e r h = absurd (omega arith)
-      go false e r h = also e (r h)
-
   pub count-empty : (p : A → Bool) → count p [] ≡ 0
   unfolding count
   count-empty p = refl

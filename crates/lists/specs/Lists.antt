@@ -1,6 +1,6 @@
 -- The first place at which a test holds, how many times it holds, those at which it holds, and "for every"; a test as a number.
 use Prim.Native.Nat.{ℕ, suc}
-use mathlib.Core.Bool.{Bool, true, false, cond, _||_, _&&_}
+use mathlib.Core.Bool.{Bool, true, false, cond, _||_}
 use mathlib.Core.List.{List, [], _∷_}
 
 -- the first place at which p holds, or the length where it holds nowhere
@@ -22,11 +22,6 @@ bit false = 0
 unfoldable pub any : {A : Type 0} → (A → Bool) → List A → Bool
 any p [] = false
 any p (x ∷ xs) = p x || any p xs
-
--- whether p holds everywhere
-unfoldable pub all : {A : Type 0} → (A → Bool) → List A → Bool
-all p [] = true
-all p (x ∷ xs) = p x && all p xs
 
 -- what of the list p holds of, in the same order
 unfoldable pub filter : {A : Type 0} → (A → Bool) → List A → List A

@@ -28,7 +28,7 @@ use Rattle.model.specs.Log.{Entry, newest, lookUp, installed, madeAt}
 use Rattle.model.specs.Rules.{distance, certified}
 use Rattle.model.specs.State.{placeOf, transaction, noTransaction}
 use Rattle.model.specs.Call.{Call, Read, Note, Distance, Commit, Message, Newest, Reply, refused, version, own, apartBy, committed, aborted, made, madeBy}
-use Rattle.model.specs.Step.{Step, order, step, marked, isAbsent, hasWritten}
+use Rattle.model.specs.Step.{Step, order, checksOf, finalOf, step, marked, isAbsent, hasWritten}
 use Rattle.columns.specs.Columns.{used, logOf, appended, laid}
 use Rattle.columns.proofs.Log.{length-log}
 use Rattle.versions.specs.Batch.{batchOf}
@@ -51,19 +51,19 @@ answered m n r a log call e l h = (rw (e .0, e .1) h, rw (e .1) l)
 module _ (m : Master) (n : ℕ) (log : List Entry) where
   -- refusal 1, which all of them have first
   pub read-nobody : (k : ℕ) → 32 ≤ placeOf (m .place) n → stepped (refused 1) m log ≡ step (stateOf m log) (Read n k)
-  unfolding step order
+  unfolding step checksOf finalOf order
   read-nobody k h = rw (le-leb _ _ h)
 
   pub note-nobody : (k o : ℕ) → 32 ≤ placeOf (m .place) n → stepped (refused 1) m log ≡ step (stateOf m log) (Note n k o)
-  unfolding step order
+  unfolding step checksOf finalOf order
   note-nobody k o h = rw (le-leb _ _ h)
 
   pub distance-nobody : (i : ℕ) → 32 ≤ placeOf (m .place) n → stepped (refused 1) m log ≡ step (stateOf m log) (Distance n i)
-  unfolding step order
+  unfolding step checksOf finalOf order
   distance-nobody i h = rw (le-leb _ _ h)
 
   pub commit-nobody : 32 ≤ placeOf (m .place) n → stepped (refused 1) m log ≡ step (stateOf m log) (Commit n)
-  unfolding step order
+  unfolding step checksOf finalOf order
   commit-nobody h = rw (le-leb _ _ h)
 
   module _ (live : placeOf (m .place) n < 32) where
@@ -71,63 +71,63 @@ module _ (m : Master) (n : ℕ) (log : List Entry) where
     t = transaction (stateOf m log) n
 
     pub read-no-key : (k : ℕ) → 63 < k → stepped (refused 2) m log ≡ step (stateOf m log) (Read n k)
-    unfolding step order
+    unfolding step checksOf finalOf order
     read-no-key k h = rw (lt-leb 32 _ live, lt-ltb 63 _ h)
 
     pub read-own : (k : ℕ) (v : ℤ) → k ≤ 63 → pendingOf t k ≡ Value v → stepped (own v) m log ≡ step (stateOf m log) (Read n k)
-    unfolding step order
+    unfolding step checksOf finalOf order
     read-own k v h p = rw (lt-leb 32 _ live, le-ltb 63 _ h, p)
 
     pub read-full : (k : ℕ) → k ≤ 63 → pendingOf t k ≡ Nothing → 16 ≤ t .recorded → stepped (refused 4) m log ≡ step (stateOf m log) (Read n k)
-    unfolding step order
+    unfolding step checksOf finalOf order
     read-full k h p f = rw (lt-leb 32 _ live, le-ltb 63 _ h, p, le-leb _ _ f)
 
     pub read-goes : (k : ℕ) → k ≤ 63 → pendingOf t k ≡ Nothing → t .recorded < 16
         → stepped (version (newest log k)) (withPlace m (placeOf (m .place) n) (recorded t (marked k (newest log k)))) log ≡ step (stateOf m log) (Read n k)
-    unfolding step order
+    unfolding step checksOf finalOf order
     read-goes k h p f = rw (lt-leb 32 _ live, le-ltb 63 _ h, p, lt-leb 16 _ f)
 
     pub note-no-key : (k o : ℕ) → 63 < k → stepped (refused 2) m log ≡ step (stateOf m log) (Note n k o)
-    unfolding step order
+    unfolding step checksOf finalOf order
     note-no-key k o h = rw (lt-leb 32 _ live, lt-ltb 63 _ h)
 
     pub note-written : (k o : ℕ) (v : ℤ) → k ≤ 63 → pendingOf t k ≡ Value v → stepped (refused 8) m log ≡ step (stateOf m log) (Note n k o)
-    unfolding step order
+    unfolding step checksOf finalOf order
     note-written k o v h p = rw (lt-leb 32 _ live, le-ltb 63 _ h, p)
 
     pub note-absent : (k o : ℕ) → k ≤ 63 → pendingOf t k ≡ Nothing → lookUp log k o ≡ Absent → stepped (refused 7) m log ≡ step (stateOf m log) (Note n k o)
-    unfolding step order
+    unfolding step checksOf finalOf order
     note-absent k o h p l = rw (lt-leb 32 _ live, le-ltb 63 _ h, p, l)
 
     pub note-full : (k o : ℕ) (v : Version) → k ≤ 63 → pendingOf t k ≡ Nothing → lookUp log k o ≡ At v → 16 ≤ t .recorded
         → stepped (refused 4) m log ≡ step (stateOf m log) (Note n k o)
-    unfolding step order
+    unfolding step checksOf finalOf order
     note-full k o v h p l f = rw (lt-leb 32 _ live, le-ltb 63 _ h, p, l, le-leb _ _ f)
 
     pub note-goes : (k o : ℕ) (v : Version) → k ≤ 63 → pendingOf t k ≡ Nothing → lookUp log k o ≡ At v → t .recorded < 16
         → stepped (version v) (withPlace m (placeOf (m .place) n) (recorded t (marked k v))) log ≡ step (stateOf m log) (Note n k o)
-    unfolding step order
+    unfolding step checksOf finalOf order
     note-goes k o v h p l f = rw (lt-leb 32 _ live, le-ltb 63 _ h, p, l, lt-leb 16 _ f)
 
     pub distance-none : (i : ℕ) → length (readsOf t) ≤ i → stepped (refused 9) m log ≡ step (stateOf m log) (Distance n i)
-    unfolding step order
+    unfolding step checksOf finalOf order
     distance-none i h = rw (lt-leb 32 _ live, le-leb _ _ h)
 
     pub distance-goes : (i : ℕ) → i < length (readsOf t)
         → stepped (apartBy (distance log (t .name .0) (getD (readsOf t) i noMark))) m log ≡ step (stateOf m log) (Distance n i)
-    unfolding step order
+    unfolding step checksOf finalOf order
     distance-goes i h = rw (lt-leb 32 _ live, lt-leb (length (readsOf t)) _ h)
 
     pub commit-aborts : (r : Rule) → certified log t ≡ Broken r → stepped (aborted r) (withPlace m (placeOf (m .place) n) (ended t)) log ≡ step (stateOf m log) (Commit n)
-    unfolding step order
+    unfolding step checksOf finalOf order
     commit-aborts r e = rw (lt-leb 32 _ live, e)
 
     pub commit-full : certified log t ≡ Whole → 4096 < length log + length (writesOf t) → stepped (refused 6) m log ≡ step (stateOf m log) (Commit n)
-    unfolding step order
+    unfolding step checksOf finalOf order
     commit-full e h = rw (lt-leb 32 _ live, e, lt-ltb 4096 _ h)
 
     pub commit-spent : certified log t ≡ Whole → length log + length (writesOf t) ≤ 4096 → m .clock .0 ≡ 4294967295 → stepped (refused 5) m log ≡ step (stateOf m log) (Commit n)
-    unfolding step order
+    unfolding step checksOf finalOf order
     commit-spent e h c = rw (lt-leb 32 _ live, e, le-ltb 4096 _ h, eq-eqb _ _ c)
 
     pub commit-goes : certified log t ≡ Whole → length log + length (writesOf t) ≤ 4096 → (m .clock .0 ≡ 4294967295 → ⊥)
@@ -141,7 +141,7 @@ module _ (m : Master) (n : ℕ) (log : List Entry) where
                 place = set (m .place) (placeOf (m .place) n) (ended t);
               };
         }
-    unfolding step order
+    unfolding step checksOf finalOf order
     commit-goes e h c = rw (lt-leb 32 _ live, e, le-ltb 4096 _ h, ne-eqb _ _ c)
 
 module _ (m : Master) (log : List Entry) where
@@ -155,19 +155,19 @@ module _ (m : Master) (log : List Entry) where
   some-made es b e h z = h (ap (λ (x : Batch). x .count) e ∙ count-of-batch es ∙ length-take 16 es ∙ rw z)
 
   pub made-none : (st : ℕ) → length (madeAt log st) ≡ 0 → stepped (refused 18) m log ≡ step (stateOf m log) (Message st)
-  unfolding step order
+  unfolding step checksOf finalOf order
   made-none st e = rw (eq-eqb _ _ e)
 
   pub made-goes : (st : ℕ) → (length (madeAt log st) ≡ 0 → ⊥) → stepped (made (take 16 (madeAt log st))) m log ≡ step (stateOf m log) (Message st)
-  unfolding step order
+  unfolding step checksOf finalOf order
   made-goes st e = rw (ne-eqb _ _ e)
 
   pub newest-no-key : (k : ℕ) → 63 < k → stepped (refused 2) m log ≡ step (stateOf m log) (Newest k)
-  unfolding step order
+  unfolding step checksOf finalOf order
   newest-no-key k h = rw (lt-ltb 63 _ h)
 
   pub newest-goes : (k : ℕ) → k ≤ 63 → stepped (madeBy (newest log k .stamp .0)) m log ≡ step (stateOf m log) (Newest k)
-  unfolding step order
+  unfolding step checksOf finalOf order
   newest-goes k h = rw (le-ltb 63 _ h)
 
 -- read, note, distance and commit after the transaction was found at a place: t is what the desk's total accessor gave

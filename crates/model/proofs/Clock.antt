@@ -11,9 +11,8 @@ use Rattle.transaction.specs.Transaction.{pendingOf}
 use Rattle.model.specs.Log.{lookUp}
 use Rattle.model.specs.State.{State, transaction}
 use Rattle.model.specs.Call.{Call, Start, Read, Note, Write, Tune, Distance, Abort, Commit, Message, Newest, Reply, refused, started, version, own, done, apartBy, committed, aborted, made, madeBy}
-use Rattle.model.specs.Step.{step, reads, notes}
+use Rattle.model.specs.Step.{step, finalOf, reads, notes}
 use Rattle.model.specs.Session.{reached}
-use Rattle.model.specs.Checks.{finalOf}
 use Rattle.model.specs.Clock.{Takes, Clocked, takes, stays}
 use Rattle.model.proofs.Refusals.{step-cases}
 

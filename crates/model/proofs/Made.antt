@@ -3,8 +3,8 @@
 use Prim.Native.Nat.{ℕ, _≤_, _<_}
 use native.Mathlib.Omega.{arith}
 use native.Mathlib.Decide.{ℕ-discrete}
-use mathlib.Core.Path.{_≡_, refl, sym, _∙_, ap}
-use mathlib.Core.Logic.{_≢_, ⊎-elim}
+use mathlib.Core.Path.{_≡_, refl, sym, _∙_, ap, subst}
+use mathlib.Core.Logic.{_↔_, _≢_, ⊎-elim}
 use mathlib.Core.Bool.{Bool, true, false, cond}
 use mathlib.Core.List.{List, [], _∷_, _++_, map, append-nil, append-assoc}
 use lib.ListN.{length, length-map}
@@ -12,11 +12,12 @@ use lib.Dec.{eqb}
 use borrow.Author.Tests.{eqb-true, eq-eqb, ne-eqb}
 use Rattle.lists.specs.Lists.{count, Every, none, also}
 use Rattle.lists.specs.Members.{In, here, below, Distinct, empty, apart}
-use Rattle.lists.proofs.Members.{in-append, in-left, in-right, in-nothing, in-one}
+use Rattle.lists.proofs.Members.{in-every, in-append, in-left, in-right, in-nothing, in-one}
 use Rattle.lists.proofs.Every.{every-map}
 use Rattle.transaction.specs.declared.Write.{Write}
 use Rattle.model.specs.Log.{Entry, versions, next, installed, madeAt}
 use Rattle.model.specs.Reached.{keysOf, Grown, bare, grew, OneCommit}
+use Rattle.model.specs.Checks.{NothingAt}
 use Rattle.model.proofs.History.{chain, chain-stamps}
 
 -- a version of another key does not change the next ordinal
@@ -104,3 +105,14 @@ in-made {e = e} (below {y = f} {xs = es} i) = go (eqb (f .stamp) (e .stamp)) (in
     go : (b : Bool) → In e (madeAt es (e .stamp)) → In e (cond b (madeAt es (e .stamp) ++ (f ∷ [])) (madeAt es (e .stamp)))
     go true j = in-left (f ∷ []) j
     go false j = j
+
+-- "18: message asked for a stamp at which no commit wrote anything". Every log is taken.
+pub none-made : (log : List Entry) (t : ℕ) → (eqb (length (madeAt log t)) 0 ≡ true) ↔ NothingAt log t
+none-made log t = (
+  λ e. in-every _ log (λ f i q. nothing (madeAt log t) (eqb-true _ _ e) f (subst (λ (u : ℕ). In f (madeAt log u)) q (in-made i))),
+  λ h. eq-eqb _ _ (ap length (made-none t h)),
+)
+  where
+    nothing : (l : List Entry) → length l ≡ 0 → (f : Entry) → ¬ In f l
+    nothing [] e f i = in-nothing i
+    nothing (x ∷ l) e f i = omega arith

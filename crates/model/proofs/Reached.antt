@@ -6,35 +6,33 @@ use mathlib.Core.Path.{_≡_, refl, sym, _∙_}
 use mathlib.Core.Logic.{_≢_}
 use mathlib.Core.Bool.{Bool, true, false, cond, not, _&&_, false≢true}
 use mathlib.Core.List.{List, [], _∷_}
-use lib.Dec.{eqb, leb, ltb}
+use lib.Dec.{ltb}
 use lib.IntN.{ℤ}
-use lib.ListN.{length, getD, set, replicate, length-set, List·getD-eq-default}
+use lib.ListN.{length, getD, set, replicate, length-set}
 use lib.Seq.{getD-set-same, getD-set-other}
-use borrow.Author.Tests.{leb-true, leb-false, ltb-false, eqb-true, eqb-false}
+use borrow.Author.Tests.{leb-false, ltb-false, eqb-false}
 use Rattle.lists.specs.Lists.{Every, none, also}
-use Rattle.lists.proofs.Find.{find-holds}
-use Rattle.lists.proofs.Every.{every-map, every-at, every-set}
+use Rattle.lists.proofs.Every.{every-map, every-set}
 use Rattle.units.specs.Bounds.{triple}
 use Rattle.units.specs.declared.Version.{Version}
 use Rattle.units.specs.declared.Found.{Found}
 use Rattle.units.specs.declared.Found.the-variants.{At, Absent}
-use Rattle.units.specs.declared.rule.Certified.{Certified}
-use Rattle.units.specs.declared.rule.Certified.the-variants.{Whole, Broken}
 use Rattle.transaction.specs.declared.Mark.{Mark}
 use Rattle.transaction.specs.declared.Transaction.{Transaction}
 use Rattle.transaction.specs.declared.Pending.{Pending}
 use Rattle.transaction.specs.declared.Pending.the-variants.{Value, Nothing}
 use Rattle.transaction.specs.Transaction.{fresh, tuned, ended, recorded, written, wroteAt, pendingOf, writesOf}
 use Rattle.model.specs.Log.{newest, lookUp}
-use Rattle.model.specs.Rules.{certified}
-use Rattle.model.specs.State.{State, opened, noTransaction, goesBy, placeOf, nobody, transaction, freePlace, withTransaction}
+use Rattle.model.specs.State.{State, opened, noTransaction, placeOf, nobody, transaction, freePlace, withTransaction}
 use Rattle.model.specs.Call.{Call, Start, Read, Note, Write, Tune, Distance, Abort, Commit, Message, Newest}
-use Rattle.model.specs.Step.{Step, step, starts, reads, notes, marked, records, noKey, readsFull, hasWritten, ends, aborts, commits}
+use Rattle.model.specs.Step.{Step, step, checksOf, finalOf, starts, reads, notes, marked, records, noKey, readsFull, hasWritten, ends, commits}
 use Rattle.model.specs.Session.{reached}
 use Rattle.model.specs.Reached.{Good, Seated, Stands, bare, grew}
-use Rattle.model.proofs.Order.{order-by, order-end}
+use Rattle.model.proofs.Order.{Fails, order-by, order-end}
+use Rattle.model.proofs.Refusals.{commit-cases}
 use Rattle.model.proofs.History.{chain, chain-from, grown-later, length-installed}
 use Rattle.model.proofs.Stands.{in-installed, stands-newest, stands-found}
+use Rattle.model.proofs.Places.{names-told, placed, is-open, seat}
 use Rattle.model.proofs.Seats.{seated-more, seated-fresh, seated-ended, seated-tuned, seated-recorded, seated-written}
 
 abbrev at : List Transaction → ℕ → Transaction
@@ -87,14 +85,6 @@ unfolding written
 written-name t k v = name-kept (ltb (wroteAt t k) 16) _ t refl
 
 module _ {opening : ℕ} (s : State) (g : Good opening s) where
-  -- every open name is at most the clock
-  pub names-told : (j : ℕ) → at (s .place) j .live ≡ true → at (s .place) j .name .0 ≤ s .clock
-  names-told j l = go (leb (length (s .place)) j) refl
-    where
-      go : (b : Bool) → leb (length (s .place)) j ≡ b → at (s .place) j .name .0 ≤ s .clock
-      go true e = rw (List·getD-eq-default (s .place) noTransaction (leb-true _ _ e)) (omega arith)
-      go false e = every-at noTransaction (g .seated) j (leb-false _ _ e) .underway l .started
-
   -- Start
   good-started : freePlace (s .place) < 32 → s .clock ≢ 4294967295 → Good opening (starts s .state)
   good-started f t =
@@ -107,25 +97,10 @@ module _ {opening : ℕ} (s : State) (g : Good opening s) where
         room = g .room;
         desk = length-set (s .place) (freePlace (s .place)) (fresh (suc (s .clock))) ∙ g .desk;
         seated = every-set (freePlace (s .place)) (fresh (suc (s .clock))) (seated-fresh (suc (s .clock)) (omega arith) (omega arith)) (every-map (seated-more (omega arith) (λ e i. i)) (g .seated));
-        names = names-fresh (s .place) (freePlace (s .place)) (fresh (suc (s .clock))) r (λ j l. let z = names-told j l in omega arith) (g .names);
+        names = names-fresh (s .place) (freePlace (s .place)) (fresh (suc (s .clock))) r (λ j l. let z = names-told s g j l in omega arith) (g .names);
       }
 
   module _ (n : ℕ) (known : nobody s n ≡ false) where
-    pub placed : placeOf (s .place) n < length (s .place)
-    placed = rw (g .desk) (leb-false 32 (placeOf (s .place) n) known)
-
-    -- the transaction found by a name is open and has that name
-    pub is-open : (transaction s n .live ≡ true) × (transaction s n .name .0 ≡ n)
-    unfolding placeOf
-    is-open = go (transaction s n .live) refl (find-holds (goesBy n) (s .place) noTransaction placed)
-      where
-        go : (b : Bool) → transaction s n .live ≡ b → (b && eqb (transaction s n .name .0) n) ≡ true → (transaction s n .live ≡ true) × (transaction s n .name .0 ≡ n)
-        go true e h = (e, eqb-true _ _ h)
-        go false e h = absurd (false≢true h)
-
-    pub seat : Seated opening (s .clock) (s .log) (transaction s n)
-    seat = every-at noTransaction (g .seated) (placeOf (s .place) n) placed
-
     -- a call that changes one open transaction, or ends it
     good-with : (t : Transaction) → t .name .0 ≡ transaction s n .name .0 → Seated opening (s .clock) (s .log) t → Good opening (withTransaction s n t)
     good-with t e h =
@@ -135,18 +110,18 @@ module _ {opening : ℕ} (s : State) (g : Good opening s) where
           room = g .room;
           desk = length-set (s .place) (placeOf (s .place) n) t ∙ g .desk;
           seated = every-set (placeOf (s .place) n) t h (g .seated);
-          names = names-kept (s .place) (placeOf (s .place) n) t placed (λ l. is-open .0) e (g .names);
+          names = names-kept (s .place) (placeOf (s .place) n) t (placed s g n known) (λ l. is-open s g n known .0) e (g .names);
         }
 
     good-ended : Good opening (ends s n)
-    good-ended = good-with (ended (transaction s n)) refl (seated-ended (transaction s n) seat)
+    good-ended = good-with (ended (transaction s n)) refl (seated-ended (transaction s n) (seat s g n known))
 
     good-committed : s .clock ≢ 4294967295 → length (s .log) + length (writesOf (transaction s n)) ≤ 4096 → Good opening (commits s n .state)
     good-committed t room =
         let h = g .ticks in
         let e = good-ended in
         record {
-          history = grew {clock = suc (s .clock)} (suc (s .clock)) (writesOf (transaction s n)) (g .history) (omega arith) (omega arith) (seat .underway (is-open .0) .writes);
+          history = grew {clock = suc (s .clock)} (suc (s .clock)) (writesOf (transaction s n)) (g .history) (omega arith) (omega arith) (seat s g n known .underway (is-open s g n known .0) .writes);
           ticks = omega arith;
           room = rw (length-installed (s .log) (suc (s .clock)) (writesOf (transaction s n))) room;
           desk = e .desk;
@@ -160,7 +135,7 @@ module _ {opening : ℕ} (s : State) (g : Good opening s) where
       good-records v full h =
           let r = leb-false 16 (transaction s n .recorded) full in
           good-with (recorded (transaction s n) (marked k v)) (recorded-name (transaction s n) (marked k v))
-          (seated-recorded (transaction s n) (marked k v) r (record { key = ltb-false 63 k key; stands = h }) seat)
+          (seated-recorded (transaction s n) (marked k v) r (record { key = ltb-false 63 k key; stands = h }) (seat s g n known))
 
       good-reads : (p : Pending) → (not (hasWritten p) && readsFull (transaction s n)) ≡ false → Good opening (reads s n k p .state)
       good-reads (Value v) e = g
@@ -173,18 +148,18 @@ module _ {opening : ℕ} (s : State) (g : Good opening s) where
       good-written : (v : ℤ) → wroteAt (transaction s n) k < 16 → Good opening (withTransaction s n (written (transaction s n) k v))
       good-written v h =
           good-with (written (transaction s n) k v) (written-name (transaction s n) k v)
-          (seated-written (transaction s n) k v (seat .pending) (seat .written) h (ltb-false 63 k key) seat)
+          (seated-written (transaction s n) k v (seat s g n known .pending) (seat s g n known .written) h (ltb-false 63 k key) (seat s g n known))
 
   abbrev Kept : Step → Type 0
   Kept d = Good opening (d .state)
 
-  good-aborts : (n : ℕ) → nobody s n ≡ false → (c : Certified) → aborts s n c .holds ≡ true → Kept (aborts s n c .step)
-  good-aborts n known Whole h = absurd (false≢true h)
-  good-aborts n known (Broken r) h = good-ended n known
+  good-granted : (n : ℕ) → Every Fails (checksOf s (Commit n)) → Kept (commits s n)
+  unfolding checksOf
+  good-granted n (also known (also kept (also room (also ticks none)))) = good-committed n known (eqb-false _ _ ticks) (ltb-false _ _ room)
 
   -- every call keeps a good state good
   pub good-step : (c : Call) → Good opening (step s c .state)
-  unfolding step
+  unfolding step checksOf finalOf
   good-step Start =
       order-by Kept _ _ _ (λ h. g) (λ free.
       order-by Kept _ _ _ (λ h. g) (λ ticks.
@@ -210,7 +185,7 @@ module _ {opening : ℕ} (s : State) (g : Good opening s) where
       order-by Kept _ _ _ (λ h. g) (λ known.
       order-by Kept _ _ _ (λ h. g) (λ bound.
       order-end Kept _ (good-with n known (tuned (transaction s n) (triple k1 k2 k3)) refl
-      (seated-tuned (transaction s n) (triple k1 k2 k3) (let z = eqb-false k1 0 bound in omega arith) (seat n known)))))
+      (seated-tuned (transaction s n) (triple k1 k2 k3) (let z = eqb-false k1 0 bound in omega arith) (seat s g n known)))))
   good-step (Distance n i) =
       order-by Kept _ _ _ (λ h. g) (λ known.
       order-by Kept _ _ _ (λ h. g) (λ there.
@@ -218,12 +193,7 @@ module _ {opening : ℕ} (s : State) (g : Good opening s) where
   good-step (Abort n) =
       order-by Kept _ _ _ (λ h. g) (λ known.
       order-end Kept _ (good-ended n known))
-  good-step (Commit n) =
-      order-by Kept _ _ _ (λ h. g) (λ known.
-      order-by Kept (aborts s n (certified (s .log) (transaction s n))) _ _ (good-aborts n known (certified (s .log) (transaction s n))) (λ kept.
-      order-by Kept _ _ _ (λ h. g) (λ room.
-      order-by Kept _ _ _ (λ h. g) (λ ticks.
-      order-end Kept _ (good-committed n known (eqb-false _ _ ticks) (ltb-false _ _ room))))))
+  good-step (Commit n) = commit-cases Kept s n (λ m. g) (λ known r q. good-ended n known) (λ h. good-granted n h)
   good-step (Message t) =
       order-by Kept _ _ _ (λ h. g) (λ made.
       order-end Kept _ g)

@@ -23,8 +23,8 @@ use Rattle.transaction.specs.declared.Mark.{Mark}
 use Rattle.transaction.specs.declared.Transaction.{Transaction}
 use Rattle.transaction.specs.Transaction.{readsOf, writesOf, noMark, noWrite}
 use Rattle.model.specs.Log.{Entry, changedAfter}
-use Rattle.model.specs.Rules.{distance, brokenAt, certified, _orElse_, stale, early, apart, overtaken, KeepsBV, KeepsFV, KeepsSV}
-use Rattle.model.specs.Kept.{Kept, FirstBreak, FirstBroken, brokeBV, brokeFV, brokeSV, brokeWC, WithinBV, WithinFV, WithinSV, WithinWC}
+use Rattle.model.specs.Rules.{distance, brokenAt, certified, _orElse_, stale, early, apart, overtaken, WithinBV, WithinFV, WithinSV, WithinWC, KeepsBV, KeepsFV, KeepsSV}
+use Rattle.model.specs.Kept.{Kept, FirstBreak, FirstBroken, brokeBV, brokeFV, brokeSV, brokeWC}
 
 -- a test that fails exactly where P holds
 abbrev Tests : {A : Type 0} → (A → Bool) → (A → Type 0) → Type 0

@@ -15,9 +15,8 @@ use Rattle.model.specs.Log.{Entry, lookUp, installed, madeAt}
 use Rattle.model.specs.State.{State, transaction}
 use Rattle.model.specs.Call as call
 use Rattle.model.specs.Call.{Call}
-use Rattle.model.specs.Step.{Step, step, reads, notes}
+use Rattle.model.specs.Step.{Step, step, finalOf, reads, notes}
 use Rattle.model.specs.Session.{reached}
-use Rattle.model.specs.Checks.{finalOf}
 use Rattle.model.proofs.Refusals.{step-cases}
 use Rattle.model.proofs.Clock.{clock-rises}
 use Rattle.model.proofs.Made.{made-other}

@@ -1,7 +1,7 @@
 -- Demand 2: "Bounds (1, 0, any) give the read and write rules of snapshot isolation, no less and no more."
 use Prim.Native.Nat.{ℕ, suc, _+_, _≤_, _<_}
 use native.Mathlib.Omega.{arith}
-use mathlib.Core.Path.{_≡_, refl, ap}
+use mathlib.Core.Path.{_≡_, refl, sym, _∙_, ap}
 use mathlib.Core.Logic.{_↔_, _⊎_, inl, inr, _≢_}
 use mathlib.Core.Bool.{Bool, true, false, _&&_}
 use mathlib.Core.List.{List}
@@ -19,16 +19,17 @@ use Rattle.transaction.specs.declared.Mark.{Mark}
 use Rattle.transaction.specs.declared.Transaction.{Transaction}
 use Rattle.transaction.specs.Transaction.{readsOf, writesOf}
 use Rattle.model.specs.Log.{Entry, upTo, between}
-use Rattle.model.specs.Rules.{distance, KeepsBV, KeepsFV, KeepsSV, KeepsWC}
-use Rattle.model.specs.State.{State, nobody, transaction}
+use Rattle.model.specs.Rules.{distance, WithinBV, WithinFV, KeepsBV, KeepsFV, KeepsSV, KeepsWC}
+use Rattle.model.specs.State.{State, atPlace}
+use Rattle.model.specs.Open.{OpenAt}
 use Rattle.model.specs.Call.{Commit, committed}
 use Rattle.model.specs.Step.{step}
-use Rattle.model.specs.Kept.{Kept, WithinBV, WithinFV}
+use Rattle.model.specs.Kept.{Kept}
 use Rattle.model.specs.Reached.{Good, Stands, loaded, stored}
 use Rattle.model.specs.Snapshot.{NewestAt, Snapshot}
 use Rattle.model.proofs.History.{upTo-mono, upTo-more}
 use Rattle.model.proofs.Signed.{diff-lt, diff-le}
-use Rattle.model.proofs.Reached.{seat, is-open}
+use Rattle.model.proofs.Desk.{one-place, underway-at}
 use Rattle.model.proofs.Commits.{granted-exactly}
 
 module _ (log : List Entry) (s : ℕ) (x : Mark) where
@@ -99,34 +100,36 @@ between-few log x a b h = let c : between log x a b ≤ length log = count-le _ 
 all-pairs : (log : List Entry) (t : Transaction) → length log ≤ 4096 → 4096 ≤ t .bounds .k3 → KeepsSV log t
 all-pairs log t h k = in-every _ (readsOf t) (λ x i. in-every _ (readsOf t) (λ y j. let c = between-few log (x .key) (x .stamp .0) (y .stamp .0) h in omega arith))
 
-module _ {opening : ℕ} (s : State) (g : Good opening s) (n : ℕ) (known : nobody s n ≡ false) where
+module _ {opening : ℕ} (s : State) (g : Good opening s) (n i : ℕ) (o : OpenAt s n i) where
   -- the recorded reads of an open transaction are versions of the log, or start versions
-  pub reads-stand : Every (Stands (s .log)) (readsOf (transaction s n))
-  reads-stand = every-map (λ x r. r .stands) (seat s g n known .underway (is-open s g n known .0) .reads)
+  pub reads-stand : Every (Stands (s .log)) (readsOf (atPlace s i))
+  reads-stand = every-map (λ x r. r .stands) (underway-at s g n o .reads)
 
-  module _ (bounds : transaction s n .bounds ≡ snapshot) where
-    one : transaction s n .bounds .k1 ≡ 1
+  module _ (bounds : atPlace s i .bounds ≡ snapshot) where
+    one : atPlace s i .bounds .k1 ≡ 1
     one = ap (λ (b : Bounds). b .k1) bounds
 
-    zero : transaction s n .bounds .k2 ≡ 0
+    zero : atPlace s i .bounds .k2 ≡ 0
     zero = ap (λ (b : Bounds). b .k2) bounds
 
-    any : transaction s n .bounds .k3 ≡ 65535
-    any = ap (λ (b : Bounds). b .k3) bounds
+    most : atPlace s i .bounds .k3 ≡ 65535
+    most = ap (λ (b : Bounds). b .k3) bounds
 
     -- the four rules under (1, 0, any) are the two of snapshot isolation
-    pub snapshot-exactly : Kept (s .log) (transaction s n) ↔ Snapshot (s .log) (transaction s n)
+    pub snapshot-exactly : Kept (s .log) (atPlace s i) ↔ Snapshot (s .log) (atPlace s i)
     snapshot-exactly =
-        let r = snapshot-rules (s .log) (transaction s n) one zero reads-stand in (
+        let r = snapshot-rules (s .log) (atPlace s i) one zero reads-stand in (
           λ k. r .0 (k .bv, k .fv, k .wc),
-          λ p. let q = r .1 p in record { bv = q .0; fv = q .1; sv = all-pairs (s .log) (transaction s n) (g .room) (omega (arith, any)); wc = q .2 },
+          λ p. let q = r .1 p in record { bv = q .0; fv = q .1; sv = all-pairs (s .log) (atPlace s i) (g .room) (omega (arith, most)); wc = q .2 },
         )
 
     -- so a commit under them is granted exactly under snapshot isolation, where log and clock have room
     pub snapshot-granted : (step s (Commit n) .reply ≡ committed (suc (s .clock)))
-        ↔ (Snapshot (s .log) (transaction s n) × (length (s .log) + length (writesOf (transaction s n)) ≤ 4096) × (s .clock ≢ 4294967295))
+        ↔ (Snapshot (s .log) (atPlace s i) × (length (s .log) + length (writesOf (atPlace s i)) ≤ 4096) × (s .clock ≢ 4294967295))
     snapshot-granted =
-        let e = granted-exactly s n (suc (s .clock)) in (
-          λ h. let k = e .0 h .0 in (snapshot-exactly .0 (k .kept), k .room, k .ticks),
-          λ h. e .1 (record { known = known; kept = snapshot-exactly .1 (h .0); room = h .1; ticks = h .2 }, refl),
+        let e = granted-exactly s g n (suc (s .clock)) in (
+          λ h. let k = e .0 h .0 in
+              let q : k .place ≡ i = sym (one-place s g n (k .stands)) ∙ one-place s g n o in
+              (snapshot-exactly .0 (rw q at (k .kept)), rw q at (k .room), k .ticks),
+          λ h. e .1 (record { place = i; stands = o; kept = snapshot-exactly .1 (h .0); room = h .1; ticks = h .2 }, refl),
         )

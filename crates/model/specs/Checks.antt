@@ -1,82 +1,90 @@
--- Document 01's order of checks, apart from the steps: for each call its checks, what it is for where none holds, and the line of
--- numbers that the document writes for it.
-use Prim.Native.Nat.{ℕ, _+_}
-use mathlib.Core.Bool.{_&&_, not}
-use mathlib.Core.List.{List, [], _∷_}
-use lib.Dec.{eqb, leb, ltb}
-use lib.ListN.{length, getD, take}
-use Rattle.lists.specs.Lists.{find}
-use Rattle.units.specs.Bounds.{triple}
-use Rattle.transaction.specs.Transaction.{tuned, written, pendingOf, readsOf, writesOf, noMark}
-use Rattle.model.specs.Log.{newest, lookUp, madeAt}
-use Rattle.model.specs.Rules.{distance, certified}
-use Rattle.model.specs.State.{State, nobody, transaction, freePlace, withTransaction}
-use Rattle.model.specs.Call.{Call, Start, Read, Note, Write, Tune, Distance, Abort, Commit, Message, Newest, done, apartBy, made, madeBy}
-use Rattle.model.specs.Step.{Step, Check, refuse, answers, noKey, spent, readsFull, writesFull, hasWritten, isAbsent, starts, reads, notes, ends, aborts, commits}
+-- Document 01's table of refusals, a proposition about the state for each row, and its lines "Start: 3, 5. Read, write: 1, 2, 4 ..", in which
+-- the rows stand in the order in which they are looked at. Nothing here is a test or a search.
+use Prim.Native.Nat.{ℕ, _+_, _≤_, _<_}
+use mathlib.Core.Bool.{true}
+use mathlib.Core.List.{List}
+use mathlib.Core.Path.{_≡_}
+use mathlib.Core.Logic.{_≢_, _⊎_}
+use lib.ListN.{length}
+use Rattle.lists.specs.Lists.{Every}
+use Rattle.lists.specs.Members.{In, Distinct}
+use Rattle.transaction.specs.declared.Transaction.{Transaction}
+use Rattle.transaction.specs.Transaction.{readsOf, writesOf}
+use Rattle.model.specs.Log.{Entry}
+use Rattle.model.specs.State.{State, atPlace}
+use Rattle.model.specs.Open.{OpenAt, Of}
+use Rattle.model.specs.Call.{Call, Start, Read, Note, Write, Tune, Distance, Abort, Commit, Message, Newest}
+use Rattle.model.specs.Kept.{Kept}
+use Rattle.model.specs.Reached.{keysOf}
 
--- what stands in the document's line for a call: a refusal by its number, commit's "the aborts"; behind the line's end the call's own answer
-pub data Line : Type 0 where
-  number : ℕ → Line
-  theAborts : Line
-  answer : Line
+-- "1: no open transaction of that name"
+abbrev pub NoneOpen : State → ℕ → Type 0
+NoneOpen s n = (i : ℕ) → ¬ OpenAt s n i
 
--- "Start: 3, 5. Read, write: 1, 2, 4. Note: 1, 2, 8, 7, 4. Tune, distance: 1, 9. Abort: 1. Commit: 1, the aborts, 6, 5. Message: 18, 17.
--- Stamp of a key's newest version ..: 2." Refusal 17 is of the room that a text is lent, and belongs to the one who writes it.
-abbrev pub lineOf : Call → List Line
-lineOf Start = number 3 ∷ number 5 ∷ []
-lineOf (Read n k) = number 1 ∷ number 2 ∷ number 4 ∷ []
-lineOf (Write n k v) = number 1 ∷ number 2 ∷ number 4 ∷ []
-lineOf (Note n k o) = number 1 ∷ number 2 ∷ number 8 ∷ number 7 ∷ number 4 ∷ []
-lineOf (Tune n k1 k2 k3) = number 1 ∷ number 9 ∷ []
-lineOf (Distance n i) = number 1 ∷ number 9 ∷ []
-lineOf (Abort n) = number 1 ∷ []
-lineOf (Commit n) = number 1 ∷ theAborts ∷ number 6 ∷ number 5 ∷ []
-lineOf (Message t) = number 18 ∷ []
-lineOf (Newest k) = number 2 ∷ []
+-- "2: key above 63"
+abbrev pub AboveKeys : ℕ → Type 0
+AboveKeys k = 63 < k
 
-unfoldable pub checksOf : State → Call → List Check
-checksOf s Start = refuse s 3 (leb 32 (freePlace (s .place))) ∷ refuse s 5 (spent s) ∷ []
-checksOf s (Read n k) =
-    refuse s 1 (nobody s n)
-    ∷ refuse s 2 (noKey k)
-    ∷ refuse s 4 (not (hasWritten (pendingOf (transaction s n) k)) && readsFull (transaction s n))
-    ∷ []
-checksOf s (Note n k o) =
-    refuse s 1 (nobody s n)
-    ∷ refuse s 2 (noKey k)
-    ∷ refuse s 8 (hasWritten (pendingOf (transaction s n) k))
-    ∷ refuse s 7 (isAbsent (lookUp (s .log) k o))
-    ∷ refuse s 4 (readsFull (transaction s n))
-    ∷ []
-checksOf s (Write n k v) = refuse s 1 (nobody s n) ∷ refuse s 2 (noKey k) ∷ refuse s 4 (writesFull (transaction s n) k) ∷ []
-checksOf s (Tune n k1 k2 k3) = refuse s 1 (nobody s n) ∷ refuse s 9 (eqb k1 0) ∷ []
-checksOf s (Distance n i) = refuse s 1 (nobody s n) ∷ refuse s 9 (leb (length (readsOf (transaction s n))) i) ∷ []
-checksOf s (Abort n) = refuse s 1 (nobody s n) ∷ []
-checksOf s (Commit n) =
-    refuse s 1 (nobody s n)
-    ∷ aborts s n (certified (s .log) (transaction s n))
-    ∷ refuse s 6 (ltb 4096 (length (s .log) + length (writesOf (transaction s n))))
-    ∷ refuse s 5 (spent s)
-    ∷ []
-checksOf s (Message t) = refuse s 18 (eqb (length (madeAt (s .log) t)) 0) ∷ []
-checksOf s (Newest k) = refuse s 2 (noKey k) ∷ []
+-- "3: start while 32 are open"
+abbrev pub AllOpen : State → Type 0
+AllOpen s = (i : ℕ) → i < 32 → atPlace s i .live ≡ true
 
-unfoldable pub finalOf : State → Call → Step
-finalOf s Start = starts s
-finalOf s (Read n k) = reads s n k (pendingOf (transaction s n) k)
-finalOf s (Note n k o) = notes s n k (lookUp (s .log) k o)
-finalOf s (Write n k v) = record { reply = done; state = withTransaction s n (written (transaction s n) k v) }
-finalOf s (Tune n k1 k2 k3) = record { reply = done; state = withTransaction s n (tuned (transaction s n) (triple k1 k2 k3)) }
-finalOf s (Distance n i) = answers s (apartBy (distance (s .log) (transaction s n .name .0) (getD (readsOf (transaction s n)) i noMark)))
-finalOf s (Abort n) = record { reply = done; state = ends s n }
-finalOf s (Commit n) = commits s n
-finalOf s (Message t) = answers s (made (take 16 (madeAt (s .log) t)))
-finalOf s (Newest k) = answers s (madeBy (newest (s .log) k .stamp .0))
+-- the transaction has written the key
+abbrev pub Wrote : ℕ → Transaction → Type 0
+Wrote k t = In k (keysOf (writesOf t))
 
--- the first check that holds; how many there are where none does
-abbrev pub first : List Check → ℕ
-first cs = find (λ (c : Check). c .holds) cs
+-- "4: 17th recorded read": 16 are recorded
+abbrev pub SixteenReads : Transaction → Type 0
+SixteenReads t = length (readsOf t) ≡ 16
 
--- what decides a call: the line's entry for the first check that holds
-abbrev pub decides : State → Call → Line
-decides s c = getD (lineOf c) (first (checksOf s c)) answer
+-- "4: .. or 17th different key written": 16 different keys are written, and this is none of them
+pub record SixteenOthers (k : ℕ) (t : Transaction) : Type 0 where
+  pub sixteen : length (keysOf (writesOf t)) ≡ 16
+  pub different : Distinct (keysOf (writesOf t))
+  pub others : ¬ Wrote k t
+
+-- "5: a stamp is wanted and the clock is 4,294,967,295"
+abbrev pub Spent : State → Type 0
+Spent s = s .clock ≡ 4294967295
+
+-- "6: commit: log length plus keys written exceeds 4,096"
+abbrev pub TooLong : List Entry → Transaction → Type 0
+TooLong log t = 4096 < length log + length (writesOf t)
+
+-- "7: note: the key has no such ordinal": every key has 0, the start version's
+abbrev pub NoOrdinal : List Entry → ℕ → ℕ → Type 0
+NoOrdinal log k o = (o ≢ 0) × Every (λ (e : Entry). ¬ ((e .key ≡ k) × (e .ordinal ≡ o))) log
+
+-- "9: .. a distance is asked for a place not recorded"
+abbrev pub NotRecorded : ℕ → Transaction → Type 0
+NotRecorded i t = length (readsOf t) ≤ i
+
+-- "18: message asked for a stamp at which no commit wrote anything"
+abbrev pub NothingAt : List Entry → ℕ → Type 0
+NothingAt log t = Every (λ (e : Entry). e .stamp ≢ t) log
+
+-- a line of the document: its rows by number, each with its proposition, and commit's "the aborts"
+pub data Line : Type 1 where
+  end : Line
+  row : (number : ℕ) → Type 0 → Line → Line
+  theAborts : Type 0 → Line → Line
+
+unfoldable pub lineOf : State → Call → Line
+lineOf s Start = row 3 (AllOpen s) (row 5 (Spent s) end)
+lineOf s (Read n k) = row 1 (NoneOpen s n) (row 2 (AboveKeys k) (row 4 (Of s n (λ (t : Transaction). ¬ Wrote k t × SixteenReads t)) end))
+lineOf s (Write n k v) = row 1 (NoneOpen s n) (row 2 (AboveKeys k) (row 4 (Of s n (SixteenOthers k)) end))
+lineOf s (Note n k o) =
+    row 1 (NoneOpen s n) (row 2 (AboveKeys k) (row 8 (Of s n (Wrote k)) (row 7 (NoOrdinal (s .log) k o) (row 4 (Of s n SixteenReads) end))))
+lineOf s (Tune n k1 k2 k3) = row 1 (NoneOpen s n) (row 9 (k1 ≡ 0) end)
+lineOf s (Distance n i) = row 1 (NoneOpen s n) (row 9 (Of s n (NotRecorded i)) end)
+lineOf s (Abort n) = row 1 (NoneOpen s n) end
+lineOf s (Commit n) =
+    row 1 (NoneOpen s n) (theAborts (Of s n (λ (t : Transaction). ¬ Kept (s .log) t)) (row 6 (Of s n (TooLong (s .log))) (row 5 (Spent s) end)))
+lineOf s (Message t) = row 18 (NothingAt (s .log) t) end
+lineOf s (Newest k) = row 2 (AboveKeys k) end
+
+-- "Where several apply, the order is given below": n's proposition holds, and none that stands before it in the line does
+unfoldable pub RefusedBy : Line → ℕ → Type 0
+RefusedBy end n = ⊥
+RefusedBy (row m P l) n = (P × (n ≡ m)) ⊎ ((¬ P) × RefusedBy l n)
+RefusedBy (theAborts P l) n = (¬ P) × RefusedBy l n

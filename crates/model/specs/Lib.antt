@@ -1,12 +1,13 @@
 pub mod Log
 pub mod Rules
 pub mod State
+pub mod Open
 pub mod Call
 pub mod Step
 pub mod Session
-pub mod Checks
-pub mod Ending
 pub mod Kept
 pub mod Reached
+pub mod Changes
+pub mod Checks
 pub mod Clock
 pub mod Snapshot

@@ -51,6 +51,11 @@ pub data NewestOf (log : List Entry) (k : ℕ) : Version → Type 0 where
   start : Every (λ (e : Entry). e .key ≢ k) log → NewestOf log k startVersion
   last : (e : Entry) → In e log → e .key ≡ k → Every (λ (f : Entry). f .key ≡ k → f .stamp ≤ e .stamp) log → NewestOf log k (versionOf e)
 
+-- "An ordinal numbers the versions of one key": v is the version of the key k that has the ordinal o, the start version for 0
+pub data Numbered (log : List Entry) (k o : ℕ) : Version → Type 0 where
+  first : o ≡ 0 → Numbered log k o startVersion
+  later : (e : Entry) → In e log → e .key ≡ k → e .ordinal ≡ o → Numbered log k o (versionOf e)
+
 -- "the master looks it up and believes nothing else": a recorded read is the start version, or a version that the log has
 pub data Stands (log : List Entry) (x : Mark) : Type 0 where
   loaded : x .ordinal .0 ≡ 0 → x .stamp .0 ≡ 0 → Stands log x

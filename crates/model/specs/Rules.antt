@@ -1,7 +1,7 @@
 -- The rules of RVSI, stated twice: as document 01 states them, for every read, pair and written key; and as the search for the first
 -- that is broken, in the order BV, FV, SV, WC.
 use Prim.Native.Nat.{ℕ, _≤_}
-use mathlib.Core.Bool.{Bool, true, false, cond, not}
+use mathlib.Core.Bool.{Bool, cond, not}
 use mathlib.Core.List.{List}
 use mathlib.Core.Path.{_≡_}
 use lib.Dec.{ltb}
@@ -24,22 +24,34 @@ unfoldable pub distance : List Entry → ℕ → Mark → ℤ
 distance log s x = pos (upTo log (x .key) s) -ℤ pos (upTo log (x .key) (x .stamp .0))
 
 module _ (log : List Entry) (t : Transaction) where
-  -- "BV: distance less than k1"
+  -- "BV: distance less than k1", of one read
+  abbrev pub WithinBV : Mark → Type 0
+  WithinBV x = distance log (t .name .0) x <ℤ pos (t .bounds .k1)
+
+  -- "FV: minus the distance at most k2", of one read
+  abbrev pub WithinFV : Mark → Type 0
+  WithinFV x = negℤ (distance log (t .name .0) x) ≤ℤ pos (t .bounds .k2)
+
+  -- "the versions of x committed strictly after c_j and strictly before c_l number at most k3", of one ordered pair of reads x_j and y_l
+  abbrev pub WithinSV : Mark → Mark → Type 0
+  WithinSV x y = between log (x .key) (x .stamp .0) (y .stamp .0) ≤ t .bounds .k3
+
+  -- "no version of a written key has a stamp above s", of one written key
+  abbrev pub WithinWC : Write → Type 0
+  WithinWC w = Every (λ (e : Entry). e .key ≡ w .key → e .stamp ≤ t .name .0) log
+
   abbrev pub KeepsBV : Type 0
-  KeepsBV = Every (λ (x : Mark). distance log (t .name .0) x <ℤ pos (t .bounds .k1)) (readsOf t)
+  KeepsBV = Every WithinBV (readsOf t)
 
-  -- "FV: minus the distance at most k2"
   abbrev pub KeepsFV : Type 0
-  KeepsFV = Every (λ (x : Mark). negℤ (distance log (t .name .0) x) ≤ℤ pos (t .bounds .k2)) (readsOf t)
+  KeepsFV = Every WithinFV (readsOf t)
 
-  -- "SV: for every ordered pair of recorded reads x_j and y_l, the versions of x committed strictly after c_j and strictly before c_l
-  -- number at most k3"
+  -- "for every ordered pair of recorded reads"
   abbrev pub KeepsSV : Type 0
-  KeepsSV = Every (λ (x : Mark). Every (λ (y : Mark). between log (x .key) (x .stamp .0) (y .stamp .0) ≤ t .bounds .k3) (readsOf t)) (readsOf t)
+  KeepsSV = Every (λ (x : Mark). Every (WithinSV x) (readsOf t)) (readsOf t)
 
-  -- "WC: no version of a written key has a stamp above s"
   abbrev pub KeepsWC : Type 0
-  KeepsWC = Every (λ (w : Write). Every (λ (e : Entry). e .key ≡ w .key → e .stamp ≤ t .name .0) log) (writesOf t)
+  KeepsWC = Every WithinWC (writesOf t)
 
   -- a read that breaks BV, one that breaks FV, a pair that breaks SV, a written key that breaks WC
   abbrev pub stale : Mark → Bool

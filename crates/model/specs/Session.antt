@@ -1,7 +1,6 @@
 -- A session: calls from an opening, one after the other; the state it reaches, and its replies.
-use Prim.Native.Nat.{ℕ}
 use mathlib.Core.List.{List, [], _∷_}
-use Rattle.model.specs.State.{State, opened}
+use Rattle.model.specs.State.{State}
 use Rattle.model.specs.Call.{Call, Reply}
 use Rattle.model.specs.Step.{Step, step}
 

@@ -5,10 +5,10 @@ use mathlib.Core.Path.{_≡_}
 use mathlib.Core.Logic.{_⊎_}
 use Rattle.lists.specs.Lists.{Every}
 use Rattle.transaction.specs.declared.Mark.{Mark}
-use Rattle.transaction.specs.declared.Write.{Write}
 use Rattle.transaction.specs.declared.Transaction.{Transaction}
 use Rattle.transaction.specs.Transaction.{readsOf, writesOf}
 use Rattle.model.specs.Log.{Entry}
+use Rattle.model.specs.Rules.{WithinWC}
 
 -- "(Snapshot Read). All reads of transaction T_i occur at T_i's start time": the version read was committed before the start, and every
 -- other version of its key after the start or before the version read
@@ -20,4 +20,4 @@ pub record NewestAt (log : List Entry) (s : ℕ) (x : Mark) : Type 0 where
 -- after its start
 pub record Snapshot (log : List Entry) (t : Transaction) : Type 0 where
   pub reads : Every (NewestAt log (t .name .0)) (readsOf t)
-  pub writes : Every (λ (w : Write). Every (λ (e : Entry). e .key ≡ w .key → e .stamp ≤ t .name .0) log) (writesOf t)
+  pub writes : Every (WithinWC log t) (writesOf t)

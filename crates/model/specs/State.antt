@@ -23,6 +23,10 @@ opened c = record { clock = c; log = []; place = replicate 32 (ended (fresh 0)) 
 abbrev pub noTransaction : Transaction
 noTransaction = record { name = record { 0 = 0 }; live = false; bounds = triple 0 0 0; reads = []; recorded = 0; writes = []; written = 0 }
 
+-- what stands at a place of the desk
+abbrev pub atPlace : State → ℕ → Transaction
+atPlace s i = getD (s .place) i noTransaction
+
 -- "A transaction's name is its start stamp"
 abbrev pub goesBy : ℕ → Transaction → Bool
 goesBy n t = t .live && eqb (t .name .0) n

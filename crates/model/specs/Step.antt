@@ -3,14 +3,11 @@ use Prim.Native.Nat.{ℕ, suc, _+_}
 use mathlib.Core.Bool.{Bool, true, false, cond, _&&_, not}
 use mathlib.Core.List.{List, [], _∷_}
 use lib.Dec.{eqb, leb, ltb}
-use lib.IntN.{ℤ}
 use lib.ListN.{length, getD, take, set}
-use Rattle.lists.specs.Lists.{find}
 use Rattle.units.specs.Bounds.{triple}
 use Rattle.units.specs.declared.Version.{Version}
 use Rattle.units.specs.declared.Found.{Found}
 use Rattle.units.specs.declared.Found.the-variants.{At, Absent}
-use Rattle.units.specs.declared.rule.Rule.{Rule}
 use Rattle.units.specs.declared.rule.Certified.{Certified}
 use Rattle.units.specs.declared.rule.Certified.the-variants.{Whole, Broken}
 use Rattle.transaction.specs.declared.Mark.{Mark}
@@ -18,7 +15,7 @@ use Rattle.transaction.specs.declared.Transaction.{Transaction}
 use Rattle.transaction.specs.declared.Pending.{Pending}
 use Rattle.transaction.specs.declared.Pending.the-variants.{Value, Nothing}
 use Rattle.transaction.specs.Transaction.{fresh, tuned, ended, recorded, written, wroteAt, pendingOf, readsOf, writesOf, noMark}
-use Rattle.model.specs.Log.{Entry, newest, lookUp, installed, madeAt}
+use Rattle.model.specs.Log.{newest, lookUp, installed, madeAt}
 use Rattle.model.specs.Rules.{distance, certified}
 use Rattle.model.specs.State.{State, nobody, transaction, freePlace, withTransaction}
 use Rattle.model.specs.Call.{Call, Start, Read, Note, Write, Tune, Distance, Abort, Commit, Message, Newest, Reply, refused, started, version, own, done, apartBy, committed, aborted, made, madeBy}
@@ -66,10 +63,6 @@ abbrev pub isAbsent : Found → Bool
 isAbsent (At v) = false
 isAbsent Absent = true
 
-abbrev pub isBroken : Certified → Bool
-isBroken Whole = false
-isBroken (Broken r) = true
-
 -- Start: the next stamp is the name, the first free place is taken
 abbrev pub starts : State → Step
 starts s =
@@ -115,44 +108,49 @@ commits s n =
           };
     }
 
-unfoldable pub step : State → Call → Step
-step s Start = order (refuse s 3 (leb 32 (freePlace (s .place))) ∷ refuse s 5 (spent s) ∷ []) (starts s)
-step s (Read n k) =
-    order
-    (refuse s 1 (nobody s n)
+-- Document 01's checks of a call, in its order: "Start: 3, 5. Read, write: 1, 2, 4. Note: 1, 2, 8, 7, 4. Tune, distance: 1, 9. Abort: 1. Commit:
+-- 1, the aborts, 6, 5. Message: 18, 17. Stamp of a key's newest version ..: 2." Refusal 17 is of the room that a text is lent, and belongs to the
+-- one who writes it.
+unfoldable pub checksOf : State → Call → List Check
+checksOf s Start = refuse s 3 (leb 32 (freePlace (s .place))) ∷ refuse s 5 (spent s) ∷ []
+checksOf s (Read n k) =
+    refuse s 1 (nobody s n)
     ∷ refuse s 2 (noKey k)
     ∷ refuse s 4 (not (hasWritten (pendingOf (transaction s n) k)) && readsFull (transaction s n))
-    ∷ [])
-    (reads s n k (pendingOf (transaction s n) k))
-step s (Note n k o) =
-    order
-    (refuse s 1 (nobody s n)
+    ∷ []
+checksOf s (Note n k o) =
+    refuse s 1 (nobody s n)
     ∷ refuse s 2 (noKey k)
     ∷ refuse s 8 (hasWritten (pendingOf (transaction s n) k))
     ∷ refuse s 7 (isAbsent (lookUp (s .log) k o))
     ∷ refuse s 4 (readsFull (transaction s n))
-    ∷ [])
-    (notes s n k (lookUp (s .log) k o))
-step s (Write n k v) =
-    order
-    (refuse s 1 (nobody s n) ∷ refuse s 2 (noKey k) ∷ refuse s 4 (writesFull (transaction s n) k) ∷ [])
-    (record { reply = done; state = withTransaction s n (written (transaction s n) k v) })
-step s (Tune n k1 k2 k3) =
-    order
-    (refuse s 1 (nobody s n) ∷ refuse s 9 (eqb k1 0) ∷ [])
-    (record { reply = done; state = withTransaction s n (tuned (transaction s n) (triple k1 k2 k3)) })
-step s (Distance n i) =
-    order
-    (refuse s 1 (nobody s n) ∷ refuse s 9 (leb (length (readsOf (transaction s n))) i) ∷ [])
-    (answers s (apartBy (distance (s .log) (transaction s n .name .0) (getD (readsOf (transaction s n)) i noMark))))
-step s (Abort n) = order (refuse s 1 (nobody s n) ∷ []) (record { reply = done; state = ends s n })
-step s (Commit n) =
-    order
-    (refuse s 1 (nobody s n)
+    ∷ []
+checksOf s (Write n k v) = refuse s 1 (nobody s n) ∷ refuse s 2 (noKey k) ∷ refuse s 4 (writesFull (transaction s n) k) ∷ []
+checksOf s (Tune n k1 k2 k3) = refuse s 1 (nobody s n) ∷ refuse s 9 (eqb k1 0) ∷ []
+checksOf s (Distance n i) = refuse s 1 (nobody s n) ∷ refuse s 9 (leb (length (readsOf (transaction s n))) i) ∷ []
+checksOf s (Abort n) = refuse s 1 (nobody s n) ∷ []
+checksOf s (Commit n) =
+    refuse s 1 (nobody s n)
     ∷ aborts s n (certified (s .log) (transaction s n))
     ∷ refuse s 6 (ltb 4096 (length (s .log) + length (writesOf (transaction s n))))
     ∷ refuse s 5 (spent s)
-    ∷ [])
-    (commits s n)
-step s (Message t) = order (refuse s 18 (eqb (length (madeAt (s .log) t)) 0) ∷ []) (answers s (made (take 16 (madeAt (s .log) t))))
-step s (Newest k) = order (refuse s 2 (noKey k) ∷ []) (answers s (madeBy (newest (s .log) k .stamp .0)))
+    ∷ []
+checksOf s (Message t) = refuse s 18 (eqb (length (madeAt (s .log) t)) 0) ∷ []
+checksOf s (Newest k) = refuse s 2 (noKey k) ∷ []
+
+-- what a call is for
+unfoldable pub finalOf : State → Call → Step
+finalOf s Start = starts s
+finalOf s (Read n k) = reads s n k (pendingOf (transaction s n) k)
+finalOf s (Note n k o) = notes s n k (lookUp (s .log) k o)
+finalOf s (Write n k v) = record { reply = done; state = withTransaction s n (written (transaction s n) k v) }
+finalOf s (Tune n k1 k2 k3) = record { reply = done; state = withTransaction s n (tuned (transaction s n) (triple k1 k2 k3)) }
+finalOf s (Distance n i) = answers s (apartBy (distance (s .log) (transaction s n .name .0) (getD (readsOf (transaction s n)) i noMark)))
+finalOf s (Abort n) = record { reply = done; state = ends s n }
+finalOf s (Commit n) = commits s n
+finalOf s (Message t) = answers s (made (take 16 (madeAt (s .log) t)))
+finalOf s (Newest k) = answers s (madeBy (newest (s .log) k .stamp .0))
+
+-- a call is its checks in order, and then what it is for
+unfoldable pub step : State → Call → Step
+step s c = order (checksOf s c) (finalOf s c)

@@ -14,7 +14,7 @@ use Rattle.units.proofs.Numbers.{number-pos}
 use Rattle.model.specs.Log.{Entry, madeAt}
 use Rattle.model.specs.Call as call
 use Rattle.model.specs.Call.{Message, Reply, made}
-use Rattle.model.specs.Step.{Step, order, step}
+use Rattle.model.specs.Step.{Step, order, checksOf, finalOf, step}
 use Rattle.model.proofs.Replies.{told}
 use Rattle.desk.specs.declared.Master.{Master}
 use Rattle.desk.specs.Desk.{stateOf, stepped}
@@ -36,7 +36,7 @@ number r = told r .number
 
 module _ (m : Master) (log : List Entry) (st : ℕ) (a : MadeAnswer) (e : stepped (madeReply a (madeAt log st)) m log ≡ step (stateOf m log) (Message st)) where
   said : number (madeReply a (madeAt log st)) ≡ cond (eqb (length (madeAt log st)) 0) 18 0
-  unfolding step order
+  unfolding step checksOf finalOf order
   said = ap (λ (s : Step). number (s .reply)) e ∙ go (eqb (length (madeAt log st)) 0)
     where
       go : (t : Bool) → number (cond t (record { reply = call.refused 18; state = stateOf m log }) (stepped (made (take 16 (madeAt log st))) m log) .reply) ≡ cond t 18 0

@@ -5,6 +5,9 @@ use mathlib.Core.List.{List, [], _∷_}
 use mathlib.Core.Path.{_≡_, refl, sym, ap, _∙_}
 use lib.ListN.{getD}
 use Rattle.units.specs.Refusal.{numberOf}
+use Rattle.units.specs.Bounds.{TripleReply, refused, taken, tripleReply}
+use Rattle.units.specs.declared.Triple.{Triple}
+use Rattle.units.specs.declared.Triple.the-variants.{Taken, Refused}
 use Rattle.units.specs.declared.refusal.Refusal.{Refusal}
 use Rattle.units.specs.declared.refusal.Refusal.the-variants.{NoTransaction, NoKey, DeskFull, TransactionFull, ClockSpent, LogFull, NoVersion, KeyWritten, NoSuchBoundOrPlace, NotAMessage, OrdinalAhead, HistoryTooLong, NotARecord, TooManyLines, WrongTransaction, TooManyTransactions, NoRoom, NothingWritten}
 
@@ -63,3 +66,15 @@ number-pos WrongTransaction = omega arith
 number-pos TooManyTransactions = omega arith
 number-pos NoRoom = omega arith
 number-pos NothingWritten = omega arith
+
+-- so a triple's answer comes back from its reply
+pub triple-inj : (a b : Triple) → tripleReply a ≡ tripleReply b → a ≡ b
+triple-inj = back-inj tripleReply back there
+  where
+    back : TripleReply → Triple
+    back (taken b) = Taken b
+    back (refused n) = Refused (refusalOf n)
+
+    there : (a : Triple) → back (tripleReply a) ≡ a
+    there (Taken b) = refl
+    there (Refused f) = ap Refused (number-back f)

@@ -5,19 +5,30 @@ use lib.Dec.{eqb}
 use Rattle.units.specs.declared.Bounds.{Bounds}
 use Rattle.units.specs.declared.Triple.{Triple}
 use Rattle.units.specs.declared.Triple.the-variants.{Taken, Refused}
-use Rattle.units.specs.declared.refusal.Refusal.the-variants.{NoSuchBoundOrPlace}
+use Rattle.units.specs.Refusal.{numberOf}
 
 abbrev pub triple : ℕ → ℕ → ℕ → Bounds
 triple k1 k2 k3 = record { k1 = k1; k2 = k2; k3 = k3 }
 
-abbrev pub any : ℕ
-any = 65535
+-- "65,535 is called any in these papers"
+abbrev pub anyBound : ℕ
+anyBound = 65535
 
 abbrev pub snapshot : Bounds
-snapshot = triple 1 0 any
+snapshot = triple 1 0 anyBound
 
 abbrev pub default : Bounds
 default = triple 1 0 0
 
-unfoldable pub bounded : ℕ → ℕ → ℕ → Triple
-bounded k1 k2 k3 = cond (eqb k1 0) (Refused NoSuchBoundOrPlace) (Taken (triple k1 k2 k3))
+-- what the constructor of a triple answers, in document 01's numbers
+pub data TripleReply : Type 0 where
+  refused : (number : ℕ) → TripleReply
+  taken : Bounds → TripleReply
+
+abbrev pub tripleReply : Triple → TripleReply
+tripleReply (Taken b) = taken b
+tripleReply (Refused f) = refused (numberOf f)
+
+-- "9: k1 is 0"
+unfoldable pub bounded : ℕ → ℕ → ℕ → TripleReply
+bounded k1 k2 k3 = cond (eqb k1 0) (refused 9) (taken (triple k1 k2 k3))

@@ -3,7 +3,7 @@ ghost use Prim.Native.Nat.{min};
 ghost use mathlib.Core.Path.{_≡_};
 ghost use mathlib.Core.List.{[]};
 ghost use Rattle.units.specs.Batch.{batchOf, added};
-ghost use Rattle.units.specs.Bounds.{bounded, snapshot, default};
+ghost use Rattle.units.specs.Bounds.{bounded, tripleReply, snapshot, default};
 ghost use Rattle.units.specs.Version.{startVersion};
 
 pub mod limits;
@@ -129,7 +129,7 @@ impl Bounds {
 
     // k1 is at least 1.
     pub fn new(k1: u16, k2: u16, k3: u16) -> Triple
-        ensures { λ r. ⌜ r ≡ bounded k1 k2 k3 ⌝ }
+        ensures { λ r. ⌜ tripleReply r ≡ bounded k1 k2 k3 ⌝ }
     {
         if k1 == 0 {
             return Triple::Refused(Refusal::NoSuchBoundOrPlace);
