@@ -8,6 +8,7 @@ use mathlib.Core.Logic.{_↔_, _≢_, ⊎-elim}
 use mathlib.Core.Bool.{Bool, true, false, cond, _||_, true≢false}
 use mathlib.Core.List.{List, [], _∷_}
 use borrow.Author.Tests.{ltb-true, lt-ltb}
+use lib.Count.{ones, trailingZeros}
 use lib.ListN.{length}
 use Rattle.lists.specs.Members.{In, here, below, Distinct, empty, apart}
 use Rattle.lists.proofs.Members.{in-nothing, in-one, in-append, in-every}
@@ -112,6 +113,10 @@ module _ (p : ℕ → Bool) (P : ℕ → Type 0) (decides : (k : ℕ) → (p k �
   pub word-tells : Tells P (wordOf p 64) (howMany p 64) (lowest p 64)
   word-tells = record { keys = word-names; many = many-named; least = lowest-named }
 
+  -- "Ones give the number of keys behind; trailing zeros give the lowest, 64 for none"
+  digits-tell : Tells P (wordOf p 64) (ones (wordOf p 64)) (trailingZeros 64 (wordOf p 64))
+  digits-tell = rw (word-ones p 64, word-lowest p 64) word-tells
+
 module _ (log : List Entry) (held : List Ordinal) where
   some-ahead : someKey (isAhead log held) 64 ≡ true → SomeAhead log held
   some-ahead h =
@@ -132,8 +137,8 @@ module _ (log : List Entry) (held : List Ordinal) where
       go : (t : Bool) → someKey (isAhead log held) 64 ≡ t → Compares log held (cond t (refused 11) (fromWord (wordOf (isBehind log held) 64)))
       go true h = ahead (some-ahead h)
       go false h =
-          rw (word-ones (isBehind log held) 64, word-lowest (isBehind log held) 64)
-          (tells (wordOf (isBehind log held) 64) (howMany (isBehind log held) 64) (lowest (isBehind log held) 64) (λ a. true≢false (sym (ahead-some a) ∙ h)) (word-tells (isBehind log held) (Lags log held) decides))
+          tells (wordOf (isBehind log held) 64) (ones (wordOf (isBehind log held) 64)) (trailingZeros 64 (wordOf (isBehind log held) 64)) (λ a. true≢false (sym (ahead-some a) ∙ h))
+          (digits-tell (isBehind log held) (Lags log held) decides)
 
   -- document 01's row 11, "Exactly when .. some ordinal is above the master's"
   pub eleven-exactly : (compared log held ≡ refused 11) ↔ SomeAhead log held

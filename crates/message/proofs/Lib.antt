@@ -7,3 +7,4 @@ pub mod Putting
 pub mod Exactly
 pub mod Bad
 pub mod Determined
+pub mod Room

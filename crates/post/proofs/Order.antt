@@ -7,7 +7,7 @@ use mathlib.Core.Path.{_≡_, refl, sym, _∙_, ap, subst}
 use mathlib.Core.Logic.{_↔_, _≢_}
 use mathlib.Core.List.{List, [], _∷_, _++_}
 use lib.ListN.{length, drop}
-use borrow.Author.Tests.{eq-eqb, ne-eqb, le-leb, lt-leb}
+use borrow.Author.Tests.{eq-eqb, ne-eqb}
 use Rattle.lists.specs.Lists.{Every}
 use Rattle.lists.specs.Members.{In, here}
 use Rattle.lists.proofs.Members.{in-every, every-in, in-nothing}
@@ -16,6 +16,7 @@ use Rattle.model.proofs.Made.{made-none, made-in, in-made}
 use Rattle.decimal.specs.Write.{put}
 use Rattle.decimal.proofs.Writing.{put-room, put-full}
 use Rattle.message.specs.Write.{MessageReply, refused, textReply}
+use Rattle.message.proofs.Room.{text-fits, text-full}
 use Rattle.delivery.specs.Sent.{messageAt}
 use Rattle.post.specs.Post.{posted, postedRoom, NoneAt, SomeAt, Sends, nothing, tooLong, sends}
 
@@ -52,11 +53,10 @@ module _ (log : List Entry) (stamp : ℕ) where
     some-posts s = (rw (ne-eqb (length (madeAt log stamp)) 0 (made-some s)), rw (ne-eqb (length (madeAt log stamp)) 0 (made-some s)))
 
     posts : {r : MessageReply} {after : List ℕ} → Sends log stamp room r after → (posted log stamp room ≡ r) × (postedRoom log stamp room ≡ after)
-    unfolding textReply
     posts (nothing n) = none-posts n
-    posts (tooLong s h) = (some-posts s .0 ∙ rw (lt-leb (length line) (length room) h), some-posts s .1 ∙ put-full room 0 line (omega arith))
+    posts (tooLong s h) = (some-posts s .0 ∙ text-full room line h, some-posts s .1 ∙ put-full room 0 line (omega arith))
     posts (sends s h) = (
-      some-posts s .0 ∙ rw (le-leb (length line) (length room) h),
+      some-posts s .0 ∙ text-fits room line h,
       some-posts s .1 ∙ put-room room 0 line (omega arith) ∙ ap (λ (k : ℕ). line ++ drop k room) (zero-add (length line)),
     )
 
