@@ -1,15 +1,15 @@
 -- A word as a set of keys: its digits name exactly the keys of which the test holds, its ones are their number, and the zeros below its
 -- lowest one lead to the lowest of them.
-use Prim.Native.Nat.{ℕ, zero, suc, _+_, _-_, _*_, _/_, _%_, _^_, _≤_, _<_}
-use native.Mathlib.Nat.{pow-suc, pow-zero, one-mul, zero-mul, mod-eq-of-lt, div-one, add-mul-div-right, add-mul-mod-self-right, mul-comm, mul-assoc}
-use native.Mathlib.Decide.{ℕ-discrete, decLt}
+use Prim.Native.Nat.{ℕ, zero, suc, _+_, _-_, _*_, _/_, _%_, _^_, _<_}
+use native.Mathlib.Nat.{pow-suc, one-mul, zero-mul, div-one, add-mul-div-right, add-mul-mod-self-right}
+use native.Mathlib.Decide.{ℕ-discrete}
 use native.Mathlib.Numerals.{add-one}
 use native.Mathlib.Omega.{arith}
 use mathlib.Core.Path.{_≡_, refl, sym, _∙_, ap}
 use mathlib.Core.Bool.{Bool, true, false, cond, _||_}
 use mathlib.Core.Logic.{_⊎_, inl, inr, ⊎-elim}
 use lib.Count.{ones, ones-cat, trailingZeros, under}
-use lib.Pow.{pow-pos, pow-lt, pow-add, add-lt-pow, high, shr-shr}
+use lib.Pow.{pow-pos, pow-add, high, shr-shr}
 use Rattle.comparison.specs.Comparison.{someKey, wordOf, howMany, lowest}
 
 -- the digit of a test

@@ -7,10 +7,19 @@ use lib.Count.{ones, trailingZeros}
 use lib.Dec.{ltb}
 use lib.ListN.{getD}
 use Rattle.units.specs.declared.Ordinal.{Ordinal}
-use Rattle.units.specs.declared.refusal.Refusal.the-variants.{OrdinalAhead}
+use Rattle.units.specs.Refusal.{numberOf}
 use Rattle.model.specs.Log.{Entry, newest}
 use Rattle.comparison.specs.declared.Compared.{Compared}
 use Rattle.comparison.specs.declared.Compared.the-variants.{Behind, Refused}
+
+-- the reply in document 01's numbers
+pub data CompareReply : Type 0 where
+  behind : (word number lowest : ℕ) → CompareReply
+  refused : (number : ℕ) → CompareReply
+
+abbrev pub compareReply : Compared → CompareReply
+compareReply (Behind word number lowest) = behind word number lowest
+compareReply (Refused f) = refused (numberOf f)
 
 -- the master's ordinal of a key
 abbrev pub newestOrdinal : List Entry → ℕ → ℕ
@@ -37,11 +46,11 @@ wordOf p zero = 0
 wordOf p (suc n) = wordOf p n + cond (p n) (2 ^ n) 0
 
 -- "Ones give the number of keys behind; trailing zeros give the lowest, 64 for none"
-abbrev pub told : ℕ → Compared
-told word = Behind word (ones word) (trailingZeros 64 word)
+abbrev pub fromWord : ℕ → CompareReply
+fromWord word = behind word (ones word) (trailingZeros 64 word)
 
-unfoldable pub compared : List Entry → List Ordinal → Compared
-compared log held = cond (someKey (isAhead log held) 64) (Refused OrdinalAhead) (told (wordOf (isBehind log held) 64))
+unfoldable pub compared : List Entry → List Ordinal → CompareReply
+compared log held = cond (someKey (isAhead log held) 64) (refused 11) (fromWord (wordOf (isBehind log held) 64))
 
 -- how many of the keys below n p holds of, and the lowest of them, n for none
 unfoldable pub howMany : (ℕ → Bool) → ℕ → ℕ

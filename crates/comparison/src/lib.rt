@@ -4,7 +4,7 @@ ghost use Prim.Native.Nat.{_<_, _^_};
 ghost use mathlib.Core.Path.{_≡_};
 ghost use mathlib.Core.Bool.{cond};
 ghost use Rattle.columns.specs.Columns.{used, logOf};
-ghost use Rattle.comparison.specs.Comparison.{isAhead, isBehind, someKey, wordOf, compared, newestOrdinal};
+ghost use Rattle.comparison.specs.Comparison.{isAhead, isBehind, someKey, wordOf, compared, compareReply, newestOrdinal};
 use units::Ordinal;
 use units::Refusal;
 use units::limits;
@@ -24,7 +24,7 @@ pub fn compare(
     length: usize,
     held: [Ordinal; limits::KEYS],
 ) -> Compared
-    ensures { λ r. ⌜ r ≡ compared (logOf (now (keys .entry)) (now (ordinals .entry)) (now (stamps .entry)) (now (values .entry)) (used length)) held ⌝ }
+    ensures { λ r. ⌜ compareReply r ≡ compared (logOf (now (keys .entry)) (now (ordinals .entry)) (now (stamps .entry)) (now (values .entry)) (used length)) held ⌝ }
 {
     if some_ahead(keys, ordinals, stamps, values, length, held) {
         return Compared::Refused(Refusal::OrdinalAhead);

@@ -4,10 +4,7 @@ use native.Mathlib.Decide.{decLt, ℕ-discrete}
 use native.Mathlib.Omega.{arith}
 use mathlib.Core.Path.{_≡_, refl, sym, ap, _∙_, subst}
 use mathlib.Core.Logic.{_⊎_, inl, inr}
-use mathlib.Core.Bool.{Bool, true, false, cond}
 use mathlib.Core.List.{List, [], _∷_, _++_, map}
-use borrow.Author.Tests.{ltb-true, ltb-false, eqb-true, eqb-false}
-use lib.Dec.{ltb, eqb}
 use lib.ListN.{length, getD, length-set}
 use lib.Seq.{getD-set-same, getD-set-other, set-out}
 use Rattle.units.specs.Version.{startVersion}
@@ -15,46 +12,45 @@ use Rattle.units.specs.declared.Item.{Item}
 use Rattle.units.specs.declared.Version.{Version}
 use Rattle.lists.specs.Lists.{Every, none, also}
 use Rattle.message.specs.Read.{Reading, whole, bad, readLine}
-use Rattle.copy.specs.Copy.{held, versionOf, replaced, takeItem, takeItems, taken, takeLine}
-use Rattle.copy.specs.Arrivals.{Arrival, arrival, takeAll, takeLines, carried, arrivals, greatest, Came, here, later}
+use Rattle.copy.specs.Copy.{held, carriedVersion, replaced, takeItem, takeItems, takeReading, takeLine}
+use Rattle.copy.specs.Arrivals.{Arrival, arrival, takeAll, takeLines, carried, arrivals, Came, here, later}
 use Rattle.copy.specs.declared.Copy.{Copy}
-use Rattle.copy.proofs.Steps.{item-outside}
+use Rattle.copy.proofs.Steps.{item-newer, item-older, item-outside}
 
 -- ---- one arrival
 
 module _ (c : Copy) (s : ℕ) (i : Item) where
   item-by : (P : Copy → Type 0) → (held c (i .key) .ordinal .0 < i .ordinal .0 → P (replaced c s i)) → (i .ordinal .0 ≤ held c (i .key) .ordinal .0 → P c) → P (takeItem c s i)
-  unfolding takeItem
-  item-by P new old = go (ltb (held c (i .key) .ordinal .0) (i .ordinal .0)) refl
+  item-by P new old = go (decLt (held c (i .key) .ordinal .0) (i .ordinal .0))
     where
-      go : (t : Bool) → ltb (held c (i .key) .ordinal .0) (i .ordinal .0) ≡ t → P (cond t (replaced c s i) c)
-      go true h = new (ltb-true (held c (i .key) .ordinal .0) (i .ordinal .0) h)
-      go false h = old (ltb-false (held c (i .key) .ordinal .0) (i .ordinal .0) h)
+      go : Dec (held c (i .key) .ordinal .0 < i .ordinal .0) → P (takeItem c s i)
+      go (yes h) = subst P (sym (item-newer c s i h)) (new h)
+      go (no h) = let l : i .ordinal .0 ≤ held c (i .key) .ordinal .0 = omega arith in subst P (sym (item-older c s i l)) (old l)
 
   pub item-length : length (takeItem c s i .versions) ≡ length (c .versions)
-  item-length = item-by (λ d. length (d .versions) ≡ length (c .versions)) (λ h. length-set (c .versions) (i .key) (versionOf s i)) (λ h. refl)
+  item-length = item-by (λ d. length (d .versions) ≡ length (c .versions)) (λ h. length-set (c .versions) (i .key) (carriedVersion s i)) (λ h. refl)
 
   -- another key's version stays
   pub item-other : (k : ℕ) → (i .key ≡ k → ⊥) → held (takeItem c s i) k ≡ held c k
-  item-other k n = item-by (λ d. held d k ≡ held c k) (λ h. getD-set-other (c .versions) (i .key) k (versionOf s i) startVersion (λ e. n (sym e))) (λ h. refl)
+  item-other k n = item-by (λ d. held d k ≡ held c k) (λ h. getD-set-other (c .versions) (i .key) k (carriedVersion s i) startVersion (λ e. n (sym e))) (λ h. refl)
 
   -- its own key's ordinal is the greater of the two
   pub item-max : i .key < length (c .versions) → held (takeItem c s i) (i .key) .ordinal .0 ≡ max (held c (i .key) .ordinal .0) (i .ordinal .0)
   item-max l =
       item-by (λ d. held d (i .key) .ordinal .0 ≡ max (held c (i .key) .ordinal .0) (i .ordinal .0))
-      (λ h. ap (λ (v : Version). v .ordinal .0) (getD-set-same (c .versions) (i .key) (versionOf s i) startVersion l) ∙ omega arith)
+      (λ h. ap (λ (v : Version). v .ordinal .0) (getD-set-same (c .versions) (i .key) (carriedVersion s i) startVersion l) ∙ omega arith)
       (λ h. omega arith)
 
   -- what is held is what was held, or what arrived for that key
-  pub item-is : (k : ℕ) → (held (takeItem c s i) k ≡ held c k) ⊎ ((i .key ≡ k) × (held (takeItem c s i) k ≡ versionOf s i))
+  pub item-is : (k : ℕ) → (held (takeItem c s i) k ≡ held c k) ⊎ ((i .key ≡ k) × (held (takeItem c s i) k ≡ carriedVersion s i))
   item-is k = go (ℕ-discrete (i .key) k)
     where
-      put : i .key ≡ k → Dec (i .key < length (c .versions)) → (held (replaced c s i) k ≡ held c k) ⊎ ((i .key ≡ k) × (held (replaced c s i) k ≡ versionOf s i))
-      put e (yes l) = inr (e, ap (held (replaced c s i)) (sym e) ∙ getD-set-same (c .versions) (i .key) (versionOf s i) startVersion l)
-      put e (no l) = inl (ap (λ (x : List Version). getD x k startVersion) (set-out (c .versions) (i .key) (versionOf s i) (omega arith)))
+      put : i .key ≡ k → Dec (i .key < length (c .versions)) → (held (replaced c s i) k ≡ held c k) ⊎ ((i .key ≡ k) × (held (replaced c s i) k ≡ carriedVersion s i))
+      put e (yes l) = inr (e, ap (held (replaced c s i)) (sym e) ∙ getD-set-same (c .versions) (i .key) (carriedVersion s i) startVersion l)
+      put e (no l) = inl (ap (λ (x : List Version). getD x k startVersion) (set-out (c .versions) (i .key) (carriedVersion s i) (omega arith)))
 
-      go : Dec (i .key ≡ k) → (held (takeItem c s i) k ≡ held c k) ⊎ ((i .key ≡ k) × (held (takeItem c s i) k ≡ versionOf s i))
-      go (yes e) = item-by (λ d. (held d k ≡ held c k) ⊎ ((i .key ≡ k) × (held d k ≡ versionOf s i))) (λ h. put e (decLt (i .key) (length (c .versions)))) (λ h. inl refl)
+      go : Dec (i .key ≡ k) → (held (takeItem c s i) k ≡ held c k) ⊎ ((i .key ≡ k) × (held (takeItem c s i) k ≡ carriedVersion s i))
+      go (yes e) = item-by (λ d. (held d k ≡ held c k) ⊎ ((i .key ≡ k) × (held d k ≡ carriedVersion s i))) (λ h. put e (decLt (i .key) (length (c .versions)))) (λ h. inl refl)
       go (no n) = inl (item-other k n)
 
   -- one that is not newer than what is held changes nothing
@@ -72,32 +68,13 @@ unfolding takeAll
 all-length c [] = refl
 all-length c (x ∷ xs) = all-length (takeItem c (x .stamp) (x .item)) xs ∙ item-length c (x .stamp) (x .item)
 
--- a key that no arrival names stays
-pub all-other : (c : Copy) (k : ℕ) (xs : List Arrival) → Every (λ x. x .item .key ≡ k → ⊥) xs → held (takeAll c xs) k ≡ held c k
-unfolding takeAll
-all-other c k [] none = refl
-all-other c k (x ∷ xs) (also n ns) = all-other (takeItem c (x .stamp) (x .item)) k xs ns ∙ item-other c (x .stamp) (x .item) k n
-
--- the ordinal held is the greatest of the copy's own and those that arrived for the key
-pub all-greatest : (c : Copy) (k : ℕ) (xs : List Arrival) → k < length (c .versions) → held (takeAll c xs) k .ordinal .0 ≡ greatest k (held c k .ordinal .0) xs
-unfolding takeAll greatest
-all-greatest c k [] l = refl
-all-greatest c k (x ∷ xs) l =
-    all-greatest (takeItem c (x .stamp) (x .item)) k xs (rw (item-length c (x .stamp) (x .item)) l) ∙ ap (λ (m : ℕ). greatest k m xs) (go (eqb (x .item .key) k) refl)
-  where
-    go : (t : Bool) → eqb (x .item .key) k ≡ t → held (takeItem c (x .stamp) (x .item)) k .ordinal .0 ≡ cond t (max (held c k .ordinal .0) (x .item .ordinal .0)) (held c k .ordinal .0)
-    go true h =
-        let e : x .item .key ≡ k = eqb-true (x .item .key) k h in
-        subst (λ (j : ℕ). held (takeItem c (x .stamp) (x .item)) j .ordinal .0 ≡ max (held c j .ordinal .0) (x .item .ordinal .0)) e (item-max c (x .stamp) (x .item) (omega arith))
-    go false h = ap (λ (v : Version). v .ordinal .0) (item-other c (x .stamp) (x .item) k (eqb-false (x .item .key) k h))
-
 -- the version held is the copy's own, or one that arrived for the key, with its stamp and value
 pub all-is : (c : Copy) (k : ℕ) (xs : List Arrival) → (held (takeAll c xs) k ≡ held c k) ⊎ Came k (held (takeAll c xs) k) xs
 unfolding takeAll
 all-is c k [] = inl refl
 all-is c k (x ∷ xs) = go (item-is c (x .stamp) (x .item) k) (all-is (takeItem c (x .stamp) (x .item)) k xs)
   where
-    go : (held (takeItem c (x .stamp) (x .item)) k ≡ held c k) ⊎ ((x .item .key ≡ k) × (held (takeItem c (x .stamp) (x .item)) k ≡ versionOf (x .stamp) (x .item)))
+    go : (held (takeItem c (x .stamp) (x .item)) k ≡ held c k) ⊎ ((x .item .key ≡ k) × (held (takeItem c (x .stamp) (x .item)) k ≡ carriedVersion (x .stamp) (x .item)))
         → (held (takeAll (takeItem c (x .stamp) (x .item)) xs) k ≡ held (takeItem c (x .stamp) (x .item)) k) ⊎ Came k (held (takeAll (takeItem c (x .stamp) (x .item)) xs) k) xs
         → (held (takeAll (takeItem c (x .stamp) (x .item)) xs) k ≡ held c k) ⊎ Came k (held (takeAll (takeItem c (x .stamp) (x .item)) xs) k) (x ∷ xs)
     go (inl p) (inl q) = inl (q ∙ p)
@@ -123,8 +100,8 @@ all-grows c k (x ∷ xs) = omega (arith, one, all-grows (takeItem c (x .stamp) (
           where
             grown : Dec (x .item .key < length (c .versions)) → held c (x .item .key) .ordinal .0 < x .item .ordinal .0
                 → held c (x .item .key) .ordinal .0 ≤ held (replaced c (x .stamp) (x .item)) (x .item .key) .ordinal .0
-            grown (yes l) h = rw (getD-set-same (c .versions) (x .item .key) (versionOf (x .stamp) (x .item)) startVersion l) (omega arith)
-            grown (no l) h = rw (set-out (c .versions) (x .item .key) (versionOf (x .stamp) (x .item)) (omega arith)) (omega arith)
+            grown (yes l) h = rw (getD-set-same (c .versions) (x .item .key) (carriedVersion (x .stamp) (x .item)) startVersion l) (omega arith)
+            grown (no l) h = rw (set-out (c .versions) (x .item .key) (carriedVersion (x .stamp) (x .item)) (omega arith)) (omega arith)
 
 first : (c : Copy) (x : Arrival) (xs : List Arrival) → x .item .key < length (c .versions) → x .item .ordinal .0 ≤ held (takeAll (takeItem c (x .stamp) (x .item)) xs) (x .item .key) .ordinal .0
 first c x xs l = omega (arith, item-max c (x .stamp) (x .item) l, all-grows (takeItem c (x .stamp) (x .item)) (x .item .key) xs)
@@ -146,23 +123,12 @@ unfolding takeAll
 all-stale c [] none = refl
 all-stale c (x ∷ xs) (also p ps) = ap (λ (d : Copy). takeAll d xs) (item-stale c (x .stamp) (x .item) p) ∙ all-stale c xs ps
 
--- the same arrivals once more
-pub all-again : (c : Copy) (xs : List Arrival) → takeAll (takeAll c xs) xs ≡ takeAll c xs
-all-again c xs =
-    all-stale (takeAll c xs) xs
-    (subst (λ (n : ℕ). Every (λ x. x .item .key < n → x .item .ordinal .0 ≤ held (takeAll c xs) (x .item .key) .ordinal .0) xs) (sym (all-length c xs)) (all-tops c xs))
-
 -- ---- the versions of one message
 
 pub items-all : (c : Copy) (stamp : ℕ) (items : List Item) → takeItems c stamp items ≡ takeAll c (map (arrival stamp) items)
 unfolding takeItems takeAll
 items-all c stamp [] = refl
 items-all c stamp (i ∷ is) = items-all (takeItem c stamp i) stamp is
-
-pub items-again : (c : Copy) (stamp : ℕ) (items : List Item) → takeItems (takeItems c stamp items) stamp items ≡ takeItems c stamp items
-items-again c stamp items =
-    let e : takeItems c stamp items ≡ takeAll c (map (arrival stamp) items) = items-all c stamp items in
-    ap (λ (d : Copy). takeItems d stamp items) e ∙ items-all (takeAll c (map (arrival stamp) items)) stamp items ∙ all-again c (map (arrival stamp) items) ∙ sym e
 
 -- ---- lines
 
@@ -171,24 +137,24 @@ unfolding takeAll
 all-append c [] ys = refl
 all-append c (x ∷ xs) ys = all-append (takeItem c (x .stamp) (x .item)) xs ys
 
-whole-all : (c : Copy) (stamp : ℕ) (items : List Item) → taken c (whole stamp items) .copy ≡ takeAll c (carried (whole stamp items))
-unfolding taken carried
+whole-all : (c : Copy) (stamp : ℕ) (items : List Item) → takeReading c (whole stamp items) .copy ≡ takeAll c (carried (whole stamp items))
+unfolding takeReading carried
 whole-all c stamp items = items-all c stamp items
 
-bad-all : (c : Copy) → taken c bad .copy ≡ takeAll c (carried bad)
-unfolding taken carried takeAll
+bad-all : (c : Copy) → takeReading c bad .copy ≡ takeAll c (carried bad)
+unfolding takeReading carried takeAll
 bad-all c = refl
 
--- a line is taken as the versions that it carries
+-- a line is takeReading as the versions that it carries
 pub line-all : (c : Copy) (l : List ℕ) → takeLine c l .copy ≡ takeAll c (carried (readLine l))
 unfolding takeLine
 line-all c l = go (readLine l)
   where
-    go : (r : Reading) → taken c r .copy ≡ takeAll c (carried r)
+    go : (r : Reading) → takeReading c r .copy ≡ takeAll c (carried r)
     go (whole stamp items) = whole-all c stamp items
     go bad = bad-all c
 
--- any lines, in any order, lost or repeated, are taken as the versions that they carry
+-- any lines, in any order, lost or repeated, are takeReading as the versions that they carry
 pub lines-all : (c : Copy) (ls : List (List ℕ)) → takeLines c ls ≡ takeAll c (arrivals ls)
 unfolding takeLines arrivals takeAll
 lines-all c [] = refl

@@ -6,6 +6,7 @@ use mathlib.Core.Path.{_≡_, refl, sym, ap, _∙_}
 use mathlib.Core.Bool.{Bool, true, false, cond}
 use mathlib.Core.List.{List, [], _∷_, _++_, map}
 use lib.Dec.{ltb}
+use borrow.Author.Tests.{lt-ltb, le-ltb}
 use lib.ListN.{length, getD, set, take, drop, length-map, drop-of-length-le, List·getD-map}
 use lib.Seq.{drop-cons, set-out, take-suc, take-suc-set, take-all}
 use Rattle.units.specs.Version.{startVersion}
@@ -13,27 +14,25 @@ use Rattle.units.proofs.Batches.{batch-items}
 use Rattle.units.specs.declared.Item.{Item}
 use Rattle.units.specs.declared.Ordinal.{Ordinal}
 use Rattle.units.specs.declared.Version.{Version}
-use Rattle.units.specs.declared.refusal.Refusal.the-variants.{NotAMessage}
 use Rattle.message.specs.Line.{itemsOf, noItem}
 use Rattle.message.specs.Read.{Reading, whole, bad, readLine, messageOf}
 use Rattle.message.specs.declared.read.Form.{Form}
 use Rattle.message.specs.declared.read.Message.{Message}
 use Rattle.message.proofs.Exactly.{exactly}
-use Rattle.copy.specs.Copy.{held, ordinalOf, ordinalsOf, versionOf, replaced, takeItem, takeItems, taken, takeLine}
+use Rattle.copy.specs.Copy.{refused, done, held, ordinalOf, ordinalsOf, carriedVersion, replaced, takeItem, takeItems, takeReading, takeLine}
 use Rattle.copy.specs.declared.Copy.{Copy}
-use Rattle.copy.specs.declared.TakeAnswer.{TakeAnswer}
-use Rattle.copy.specs.declared.Taken.{Taken}
 
 -- ---- one version
 
 module _ (c : Copy) (stamp : ℕ) (i : Item) where
-  pub item-newer : ltb (held c (i .key) .ordinal .0) (i .ordinal .0) ≡ true → replaced c stamp i ≡ takeItem c stamp i
+  -- "it replaces its own exactly if the message's ordinal is greater"
+  pub item-older : i .ordinal .0 ≤ held c (i .key) .ordinal .0 → takeItem c stamp i ≡ c
   unfolding takeItem
-  item-newer h = rw h
+  item-older h = ap (λ (t : Bool). cond t (replaced c stamp i) c) (le-ltb (held c (i .key) .ordinal .0) (i .ordinal .0) h)
 
-  pub item-older : ltb (held c (i .key) .ordinal .0) (i .ordinal .0) ≡ false → c ≡ takeItem c stamp i
+  pub item-newer : held c (i .key) .ordinal .0 < i .ordinal .0 → takeItem c stamp i ≡ replaced c stamp i
   unfolding takeItem
-  item-older h = rw h
+  item-newer h = ap (λ (t : Bool). cond t (replaced c stamp i) c) (lt-ltb (held c (i .key) .ordinal .0) (i .ordinal .0) h)
 
   -- no such key
   pub item-outside : length (c .versions) ≤ i .key → c ≡ takeItem c stamp i
@@ -41,7 +40,7 @@ module _ (c : Copy) (stamp : ℕ) (i : Item) where
   item-outside h = go (ltb (held c (i .key) .ordinal .0) (i .ordinal .0))
     where
       same : c ≡ replaced c stamp i
-      same = ap (λ (l : List Version). record { versions = l }) (sym (set-out (c .versions) (i .key) (versionOf stamp i) h))
+      same = ap (λ (l : List Version). record { versions = l }) (sym (set-out (c .versions) (i .key) (carriedVersion stamp i) h))
 
       go : (t : Bool) → c ≡ cond t (replaced c stamp i) c
       go true = same
@@ -63,22 +62,22 @@ module _ (l : List Item) (stamp i : ℕ) (c : Copy) {w : Copy} (e : w ≡ takeIt
 -- ---- a line
 
 module _ (c : Copy) (s : List ℕ) {m : Message} (e : m ≡ messageOf (readLine s)) where
-  pub line-whole : {d : Copy} → m .form ≡ Form.Whole → d ≡ takeItems c (m .stamp .0) (itemsOf (m .batch)) → record { answer = TakeAnswer.Taken; copy = d } ≡ takeLine c s
-  unfolding takeLine taken messageOf
+  pub line-whole : {d : Copy} → m .form ≡ Form.Whole → d ≡ takeItems c (m .stamp .0) (itemsOf (m .batch)) → record { reply = done; copy = d } ≡ takeLine c s
+  unfolding takeLine takeReading messageOf
   line-whole {d = d} h q = go (readLine s) refl e
     where
-      go : (t : Reading) → readLine s ≡ t → m ≡ messageOf t → record { answer = TakeAnswer.Taken; copy = d } ≡ taken c t
+      go : (t : Reading) → readLine s ≡ t → m ≡ messageOf t → record { reply = done; copy = d } ≡ takeReading c t
       go (whole stamp items) r f =
           let few : length items ≤ 16 = exactly s stamp items .0 r .1 .few in
           let same : takeItems c (m .stamp .0) (itemsOf (m .batch)) ≡ takeItems c stamp items = rw f (ap (takeItems c stamp) (batch-items items few)) in
-          ap (λ (x : Copy). record { answer = TakeAnswer.Taken; copy = x }) (q ∙ same)
+          ap (λ (x : Copy). record { reply = done; copy = x }) (q ∙ same)
       go bad r f = let g : Form.Whole ≡ Form.Bad = sym h ∙ ap (λ (x : Message). x .form) f in let z : _≡_ {A = ℕ} 0 1 = cc in absurd (omega arith)
 
-  pub line-bad : m .form ≡ Form.Bad → record { answer = TakeAnswer.Refused NotAMessage; copy = c } ≡ takeLine c s
-  unfolding takeLine taken messageOf
+  pub line-bad : m .form ≡ Form.Bad → record { reply = refused 10; copy = c } ≡ takeLine c s
+  unfolding takeLine takeReading messageOf
   line-bad h = go (readLine s) refl e
     where
-      go : (t : Reading) → readLine s ≡ t → m ≡ messageOf t → record { answer = TakeAnswer.Refused NotAMessage; copy = c } ≡ taken c t
+      go : (t : Reading) → readLine s ≡ t → m ≡ messageOf t → record { reply = refused 10; copy = c } ≡ takeReading c t
       go (whole stamp items) r f = let g : Form.Bad ≡ Form.Whole = sym h ∙ ap (λ (x : Message). x .form) f in let z : _≡_ {A = ℕ} 0 1 = cc in absurd (omega arith)
       go bad r f = refl
 

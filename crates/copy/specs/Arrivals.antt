@@ -1,14 +1,12 @@
 -- What reaches a copy: versions of any messages, in any order, lost or repeated.
-use Prim.Native.Nat.{ℕ, max}
+use Prim.Native.Nat.{ℕ}
 use mathlib.Core.Path.{_≡_}
-use mathlib.Core.Bool.{cond}
 use mathlib.Core.List.{List, [], _∷_, _++_, map}
-use lib.Dec.{eqb}
 use Rattle.units.specs.declared.Item.{Item}
 use Rattle.units.specs.declared.Version.{Version}
 use Rattle.message.specs.Read.{Reading, whole, bad, readLine}
 use Rattle.copy.specs.declared.Copy.{Copy}
-use Rattle.copy.specs.Copy.{versionOf, takeItem, takeLine}
+use Rattle.copy.specs.Copy.{carriedVersion, takeItem, takeLine}
 
 -- a version, and the stamp of the message that carried it
 pub record Arrival : Type 0 where
@@ -35,12 +33,7 @@ unfoldable pub arrivals : List (List ℕ) → List Arrival
 arrivals [] = []
 arrivals (l ∷ ls) = carried (readLine l) ++ arrivals ls
 
--- the greatest of m and the ordinals that arrived for the key k
-unfoldable pub greatest : ℕ → ℕ → List Arrival → ℕ
-greatest k m [] = m
-greatest k m (x ∷ xs) = greatest k (cond (eqb (x .item .key) k) (max m (x .item .ordinal .0)) m) xs
-
 -- the version v of the key k is one of those that arrived
 pub data Came (k : ℕ) (v : Version) : List Arrival → Type 0 where
-  here : {x : Arrival} {xs : List Arrival} → x .item .key ≡ k → v ≡ versionOf (x .stamp) (x .item) → Came k v (x ∷ xs)
+  here : {x : Arrival} {xs : List Arrival} → x .item .key ≡ k → v ≡ carriedVersion (x .stamp) (x .item) → Came k v (x ∷ xs)
   later : {x : Arrival} {xs : List Arrival} → Came k v xs → Came k v (x ∷ xs)

@@ -3,7 +3,7 @@ ghost use Prim.Native.Nat.{_<_};
 ghost use mathlib.Core.Path.{_≡_};
 ghost use lib.Dec.{ltb};
 ghost use Rattle.message.specs.Line.{itemsOf};
-ghost use Rattle.copy.specs.Copy.{freshCopy, readOf, ordinalsOf, takeItem, takeItems, takeLine};
+ghost use Rattle.copy.specs.Copy.{heldReply, takeStep, freshCopy, readOf, ordinalsOf, takeItem, takeItems, takeLine};
 use message::Form;
 use message::read_message;
 use message::size;
@@ -46,7 +46,7 @@ impl Copy {
     }
 
     pub fn read(self, key: u32) -> ReadAnswer
-        ensures { λ r. ⌜ r ≡ readOf self key ⌝ }
+        ensures { λ r. ⌜ heldReply r ≡ readOf self key ⌝ }
     {
         if limits::LAST_KEY < key {
             return ReadAnswer::Refused(Refusal::NoKey);
@@ -72,7 +72,7 @@ impl Copy {
 
     // A line that is not of the form leaves the copy as it was.
     pub fn take(self, line: &[u8]) -> Taken
-        ensures { λ r. ⌜ r ≡ takeLine self (now (line .entry)) ⌝ }
+        ensures { λ r. ⌜ takeStep r ≡ takeLine self (now (line .entry)) ⌝ }
     {
         let m = read_message(line);
         let form = m.form;

@@ -23,11 +23,11 @@ use Rattle.copy.specs.Copy.{freshCopy, held, ordinalsOf, takeLine}
 use Rattle.copy.specs.Arrivals.{takeLines, arrivals}
 use Rattle.copy.specs.declared.Copy.{Copy}
 use Rattle.copy.proofs.Newest.{lines-all}
-use Rattle.delivery.specs.Sent.{MessageOf, Says}
+use Rattle.delivery.specs.Sent.{MessageOf, Carries}
 use Rattle.delivery.specs.Values.{Ranged}
 use Rattle.delivery.specs.Held.{arrivalOf, NewestTaken}
 use Rattle.delivery.specs.Named.{Lacks, NamesBehind, newestMessage, Given}
-use Rattle.delivery.proofs.Messages.{message-all, answers-message, message-says, version-carried, lines-committed, line-arrives}
+use Rattle.delivery.proofs.Messages.{message-all, answers-message, message-carries, version-carried, lines-committed, line-arrives}
 use Rattle.delivery.proofs.Held.{newest-held, taken-top, taken-le, taken-newest}
 use Rattle.delivery.proofs.Named.{compared-names}
 use Rattle.delivery.proofs.Again.{never-back}
@@ -89,14 +89,14 @@ module _ {opening : ℕ} (s : State) (g : Good opening s) where
         }
 
   module _ (r : Ranged s) where
-    all-say : {lines : List (List ℕ)} → Every (MessageOf (s .log)) lines → Every (Says (s .log)) lines
-    all-say ms = every-map (λ line m. message-says s g r m) ms
+    all-carry : {lines : List (List ℕ)} → Every (MessageOf (s .log)) lines → Every (Carries (s .log)) lines
+    all-carry ms = every-map (λ line m. message-carries s g r m) ms
 
     pub log-holds : {lines : List (List ℕ)} → Every (MessageOf (s .log)) lines → (k : ℕ) → k ≤ 63
         → NewestTaken (s .log) k (arrivals lines) (held (takeLines freshCopy lines) k)
     log-holds {lines} ms k h =
         subst (λ (c : Copy). NewestTaken (s .log) k (arrivals lines) (held c k)) (sym (lines-all freshCopy lines))
-        (newest-held whole-log (lines-committed (all-say ms)) k h)
+        (newest-held whole-log (lines-committed (all-carry ms)) k h)
 
     pub log-names : {lines : List (List ℕ)} → Every (MessageOf (s .log)) lines → NamesBehind (s .log) (takeLines freshCopy lines) (compared (s .log) (ordinalsOf (takeLines freshCopy lines)))
     log-names {lines} ms = compared-names (s .log) (takeLines freshCopy lines) (λ k h. taken-le whole-log (log-holds ms k h))

@@ -3,7 +3,7 @@ use Prim.Native.Nat.{ℕ, _≤_, _<_}
 use native.Mathlib.Decide.{decLt}
 use native.Mathlib.Omega.{arith}
 use mathlib.Core.Path.{_≡_, refl, sym, _∙_, ap, subst}
-use mathlib.Core.Logic.{_⊎_, ⊎-elim}
+use mathlib.Core.Logic.{⊎-elim}
 use mathlib.Core.List.{List, _∷_}
 use lib.ListN.{getD-replicate}
 use Rattle.lists.specs.Lists.{Every, also}
@@ -15,8 +15,7 @@ use Rattle.units.specs.declared.Version.{Version}
 use Rattle.model.specs.Log.{Entry, versionOf, versions, upTo, newest}
 use Rattle.model.specs.Reached.{Chain, NewestOf, start, last}
 use Rattle.model.proofs.History.{chain-stamps, ordinal-counts, ordinals-rise, same-ordinal, newest-counts, newest-is, ordinal-range, upTo-mono, upTo-now}
-use Rattle.copy.specs.Copy as copy
-use Rattle.copy.specs.Copy.{freshCopy, held}
+use Rattle.copy.specs.Copy.{freshCopy, held, carriedVersion}
 use Rattle.copy.specs.Arrivals as arrive
 use Rattle.copy.specs.Arrivals.{Arrival, takeAll, Came}
 use Rattle.copy.proofs.Newest.{all-is, all-tops}
@@ -37,7 +36,7 @@ came-from (arrive.here {x = x} {xs = xs} q e) (also c cs) =
       entry = c .entry;
       there = c .there;
       key = ap (λ (y : Arrival). y .item .key) (sym (c .same)) ∙ q;
-      same = e ∙ ap (λ (y : Arrival). copy.versionOf (y .stamp) (y .item)) (c .same);
+      same = e ∙ ap (λ (y : Arrival). carriedVersion (y .stamp) (y .item)) (c .same);
       arrived = subst (λ (y : Arrival). In y (x ∷ xs)) (c .same) here;
     }
 came-from (arrive.later m) (also c cs) =

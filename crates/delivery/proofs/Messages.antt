@@ -3,17 +3,15 @@
 use Prim.Native.Nat.{ℕ, suc, _≤_, _<_}
 use native.Mathlib.Decide.{decLt}
 use native.Mathlib.Omega.{arith}
-use mathlib.Core.Path.{_≡_, refl, sym, _∙_, ap}
+use mathlib.Core.Path.{_≡_, refl, sym, _∙_, ap, subst}
 use mathlib.Core.Logic.{_≢_, _↔_}
-use mathlib.Core.Bool.{true, false}
-use mathlib.Core.List.{List, [], _∷_, _++_, map, append-assoc}
+use mathlib.Core.List.{List, [], _∷_, _++_, map}
 use lib.ListN.{length, take, length-map}
 use lib.Seq.{take-all}
-use borrow.Author.Tests.{ne-eqb}
 use Rattle.lists.specs.Lists.{Every, none, also}
-use Rattle.lists.specs.Members.{In, here, below, Distinct, apart}
-use Rattle.lists.proofs.Every.{every-map, every-append, any-none}
-use Rattle.lists.proofs.Images.{every-image, image-every}
+use Rattle.lists.specs.Members.{In, here, below, Distinct}
+use Rattle.lists.proofs.Every.{every-map, every-append}
+use Rattle.lists.proofs.Images.{every-image}
 use Rattle.lists.proofs.Members.{every-in, in-every, in-left, in-right, in-map}
 use Rattle.units.specs.declared.Item.{Item}
 use Rattle.model.specs.Log.{Entry, madeAt}
@@ -29,14 +27,13 @@ use Rattle.model.proofs.Granted.{message-none, message-whole}
 use Rattle.model.proofs.Reached.{good-reached}
 use Rattle.model.proofs.Sent.{made-stays}
 use Rattle.versions.specs.Batch.{itemOf}
-use Rattle.message.specs.Line.{lineOf, InRanges, named, distinct, InForm}
+use Rattle.message.specs.Line.{messageText, InRanges, IsMessage}
 use Rattle.message.specs.Read.{Reading, whole, readLine}
 use Rattle.message.proofs.Exactly.{line-back}
-use Rattle.copy.specs.Copy.{taken, takeLine}
+use Rattle.copy.specs.Copy.{done, takeReading, takeLine}
 use Rattle.copy.specs.Arrivals.{Arrival, arrival, carried, arrivals}
 use Rattle.copy.specs.declared.Copy.{Copy}
-use Rattle.copy.specs.declared.TakeAnswer.{TakeAnswer}
-use Rattle.delivery.specs.Sent.{messageAt, MessageOf, Sent, Answered, Says}
+use Rattle.delivery.specs.Sent.{messageAt, MessageOf, Sent, Answered, Carries}
 use Rattle.delivery.specs.Values.{Ranged}
 use Rattle.delivery.specs.Held.{arrivalOf, Committed}
 
@@ -47,20 +44,10 @@ unfolding reached
 reached-append s [] after = refl
 reached-append s (c ∷ before) after = reached-append (step s c .state) before after
 
--- what was sent in a session was sent in one that goes on
-pub sent-later : {opening : ℕ} {calls : List Call} {line : List ℕ} (more : List Call) → Sent opening calls line → Sent opening (calls ++ more) line
-sent-later more m =
-    record {
-      before = m .before;
-      after = m .after ++ more;
-      moment = ap (λ (cs : List Call). cs ++ more) (m .moment) ∙ append-assoc (m .before) (m .after) more;
-      message = m .message;
-    }
-
 -- the message of a stamp is what was made at it
 message-same : (a b : List Entry) (t : ℕ) → madeAt a t ≡ madeAt b t → messageAt a t ≡ messageAt b t
 unfolding messageAt
-message-same a b t e = ap (λ (es : List Entry). lineOf t (map itemOf (take 16 es))) e
+message-same a b t e = ap (λ (es : List Entry). messageText t (map itemOf (take 16 es))) e
 
 -- where a stamp has a message, the clock has passed it
 passed-by : {opening : ℕ} (s : State) → Good opening s → (t : ℕ) → madeAt (s .log) t ≢ [] → t ≤ s .clock
@@ -89,21 +76,15 @@ carried-whole : {r : Reading} {stamp : ℕ} {items : List Item} → r ≡ whole 
 unfolding carried
 carried-whole e = rw e
 
--- "no key twice"
-distinct-items : (es : List Entry) → Distinct (map (λ (e : Entry). e .key) es) → distinct (map itemOf es) ≡ true
-unfolding distinct
-distinct-items [] d = refl
-distinct-items (e ∷ es) (apart n d) =
-    rw (
-      any-none (named (e .key)) (every-image (λ (i : Item). named (e .key) i ≡ false) itemOf (every-map (λ (f : Entry) h. ne-eqb (f .key) (e .key) h) (image-every (λ (k : ℕ). k ≢ e .key) (λ (f : Entry). f .key) es n))),
-      distinct-items es d,
-    )
+keys-items : (es : List Entry) → map (λ (i : Item). i .key) (map itemOf es) ≡ map (λ (e : Entry). e .key) es
+keys-items [] = refl
+keys-items (e ∷ es) = ap (λ (ks : List ℕ). e .key ∷ ks) (keys-items es)
 
 module _ {opening : ℕ} (s : State) (g : Good opening s) where
   -- no commit made more than 16 versions
-  pub message-all : (t : ℕ) → messageAt (s .log) t ≡ lineOf t (map itemOf (madeAt (s .log) t))
+  pub message-all : (t : ℕ) → messageAt (s .log) t ≡ messageText t (map itemOf (madeAt (s .log) t))
   unfolding messageAt
-  message-all t = ap (λ (es : List Entry). lineOf t (map itemOf es)) (take-all 16 (madeAt (s .log) t) (made-few (g .history) t))
+  message-all t = ap (λ (es : List Entry). messageText t (map itemOf es)) (take-all 16 (madeAt (s .log) t) (made-few (g .history) t))
 
   pub answers-message : (t : ℕ) → madeAt (s .log) t ≢ [] → step s (Message t) .reply ≡ made (madeAt (s .log) t)
   answers-message t h = ap (λ (d : Step). d .reply) (message-whole s g t h)
@@ -120,7 +101,7 @@ module _ {opening : ℕ} (s : State) (g : Good opening s) where
           let some : madeAt (s .log) (a .stamp) ≢ [] = λ e. other (sym (message-none s (a .stamp) e) ∙ a .reply) tt in
           let same : made (madeAt (s .log) (a .stamp)) ≡ made (a .versions) = sym (answers-message (a .stamp) some) ∙ a .reply in
           let all : madeAt (s .log) (a .stamp) ≡ a .versions = cc in
-          record { stamp = a .stamp; wrote = some; text = a .text ∙ ap (λ (es : List Entry). lineOf (a .stamp) (map itemOf es)) (sym all) ∙ sym (message-all (a .stamp)) }
+          record { stamp = a .stamp; wrote = some; text = a .text ∙ ap (λ (es : List Entry). messageText (a .stamp) (map itemOf es)) (sym all) ∙ sym (message-all (a .stamp)) }
 
   module _ (r : Ranged s) where
     in-ranges : (t : ℕ) (e : Entry) → In e (madeAt (s .log) t) → InRanges (itemOf e)
@@ -131,10 +112,10 @@ module _ {opening : ℕ} (s : State) (g : Good opening s) where
         record { key = every-in (made-keys (g .history) t) (in-map (λ (e : Entry). e .key) i); first = o .0; last = omega (arith, o .1); value = every-in (r .log) there }
 
     -- every message is of the form of document 01
-    pub in-form : (t : ℕ) → madeAt (s .log) t ≢ [] → InForm t (map itemOf (madeAt (s .log) t))
+    pub in-form : (t : ℕ) → madeAt (s .log) t ≢ [] → IsMessage t (map itemOf (madeAt (s .log) t))
     in-form t h = go (madeAt (s .log) t) refl
       where
-        go : (es : List Entry) → madeAt (s .log) t ≡ es → InForm t (map itemOf (madeAt (s .log) t))
+        go : (es : List Entry) → madeAt (s .log) t ≡ es → IsMessage t (map itemOf (madeAt (s .log) t))
         go [] q = absurd (h q)
         go (e ∷ es) q =
             let i : In e (madeAt (s .log) t) = rw q here in
@@ -149,19 +130,19 @@ module _ {opening : ℕ} (s : State) (g : Good opening s) where
               some = omega arith;
               few = omega arith;
               ranges = every-image InRanges itemOf (in-every (λ (f : Entry). InRanges (itemOf f)) (madeAt (s .log) t) (in-ranges t));
-              apart = distinct-items (madeAt (s .log) t) (made-once (g .history) t);
+              apart = subst Distinct (sym (keys-items (madeAt (s .log) t))) (made-once (g .history) t);
             }
 
     module _ {line : List ℕ} (m : MessageOf (s .log) line) where
       line-reads : readLine line ≡ whole (m .stamp) (map itemOf (madeAt (s .log) (m .stamp)))
       line-reads = ap readLine (m .text ∙ message-all (m .stamp)) ∙ line-back (m .stamp) (map itemOf (madeAt (s .log) (m .stamp))) (in-form (m .stamp) (m .wrote))
 
-      line-taken : (c : Copy) → takeLine c line .answer ≡ TakeAnswer.Taken
-      unfolding takeLine taken
+      line-taken : (c : Copy) → takeLine c line .reply ≡ done
+      unfolding takeLine takeReading
       line-taken c = rw line-reads
 
-      pub message-says : Says (s .log) line
-      message-says =
+      pub message-carries : Carries (s .log) line
+      message-carries =
           record {
             stamp = m .stamp;
             form = in-form (m .stamp) (m .wrote);
@@ -178,13 +159,13 @@ module _ {opening : ℕ} (s : State) (g : Good opening s) where
 
 module _ {log : List Entry} where
   -- "each message taken is one this master sent": what arrives are versions of its log
-  line-committed : {line : List ℕ} → Says log line → Every (Committed log) (carried (readLine line))
+  line-committed : {line : List ℕ} → Carries log line → Every (Committed log) (carried (readLine line))
   line-committed m =
       rw (carried-whole (m .reads))
       (every-image (Committed log) (arrival (m .stamp)) (every-image (λ (i : Item). Committed log (arrival (m .stamp) i)) itemOf
       (every-map (λ (e : Entry) h. record { entry = e; there = h .0; same = ap (λ (t : ℕ). arrival t (itemOf e)) (sym (h .1)) }) (m .logged))))
 
-  pub lines-committed : {lines : List (List ℕ)} → Every (Says log) lines → Every (Committed log) (arrivals lines)
+  pub lines-committed : {lines : List (List ℕ)} → Every (Carries log) lines → Every (Committed log) (arrivals lines)
   unfolding arrivals
   lines-committed none = none
   lines-committed (also m ms) = every-append (line-committed m) (lines-committed ms)

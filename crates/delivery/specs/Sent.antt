@@ -13,15 +13,14 @@ use Rattle.model.specs.Call.{Call, Message, made}
 use Rattle.model.specs.Step.{step}
 use Rattle.model.specs.Session.{reached}
 use Rattle.versions.specs.Batch.{itemOf}
-use Rattle.message.specs.Line.{lineOf, InForm}
+use Rattle.message.specs.Line.{messageText, IsMessage}
 use Rattle.message.specs.Read.{whole, readLine}
-use Rattle.copy.specs.Copy.{takeLine}
+use Rattle.copy.specs.Copy.{done, takeLine}
 use Rattle.copy.specs.declared.Copy.{Copy}
-use Rattle.copy.specs.declared.TakeAnswer.{TakeAnswer}
 
 -- the line that a master with this log sends for a stamp; in a log that a session reaches no commit made more than 16 versions
 unfoldable pub messageAt : List Entry → ℕ → List ℕ
-messageAt log stamp = lineOf stamp (map itemOf (take 16 (madeAt log stamp)))
+messageAt log stamp = messageText stamp (map itemOf (take 16 (madeAt log stamp)))
 
 -- the line is the message of a commit of the log; 18 is for "a stamp at which no commit wrote anything"
 pub record MessageOf (log : List Entry) (line : List ℕ) : Type 0 where
@@ -41,13 +40,13 @@ pub record Answered (s : State) (line : List ℕ) : Type 0 where
   pub stamp : ℕ
   pub versions : List Entry
   pub reply : step s (Message stamp) .reply ≡ made versions
-  pub text : line ≡ lineOf stamp (map itemOf versions)
+  pub text : line ≡ messageText stamp (map itemOf versions)
 
--- what a message of a log says: it is of document 01's form, it is read and taken, and it carries the versions that the commit at its
+-- what a message of a log carries: it is of document 01's form, it is read and taken, and its versions are those that the commit at its
 -- stamp made, which are versions of the log
-pub record Says (log : List Entry) (line : List ℕ) : Type 0 where
+pub record Carries (log : List Entry) (line : List ℕ) : Type 0 where
   pub stamp : ℕ
-  pub form : InForm stamp (map itemOf (madeAt log stamp))
+  pub form : IsMessage stamp (map itemOf (madeAt log stamp))
   pub reads : readLine line ≡ whole stamp (map itemOf (madeAt log stamp))
   pub logged : Every (λ (e : Entry). In e log × (e .stamp ≡ stamp)) (madeAt log stamp)
-  pub taken : (c : Copy) → takeLine c line .answer ≡ TakeAnswer.Taken
+  pub taken : (c : Copy) → takeLine c line .reply ≡ done

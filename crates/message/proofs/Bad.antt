@@ -12,8 +12,8 @@ use Rattle.decimal.specs.Text.{isDigit, spelt, decimal, plain, field, joined}
 use Rattle.decimal.specs.Read.{more, digits, unsigned, negative, fieldAt, asNatural, naturalAt, asSigned, signedAt, naturalBehindTab, signedBehindTab, onNumber}
 use Rattle.decimal.proofs.Reading.{Stops, after, reads-at, reads-one}
 use Rattle.decimal.proofs.Bad.{upTo, in-upTo}
-use Rattle.message.specs.Line.{itemText, itemsText, lineOf, distinct, InForm}
-use Rattle.message.specs.Read.{whole, bad, onValue, onPiece, itemAt, endsAt, closed, itemsAt, readLine}
+use Rattle.message.specs.Line.{itemText, itemsText, messageText, IsMessage}
+use Rattle.message.specs.Read.{whole, bad, onValue, onPiece, itemAt, endsAt, distinct, ifDistinct, itemsAt, readLine}
 use Rattle.message.proofs.Exactly.{bad-exactly}
 use Rattle.message.proofs.Items.{stops-items}
 
@@ -59,8 +59,8 @@ items-inj (i ∷ is) (j ∷ js) t u e =
     (λ n. a .0 n ∷ b .0 n, b .1)
 
 -- of every stamp and versions, of the form or not: the text says them, and no text goes on where another ends
-pub line-inj : (stamp was : ℕ) (is js : List Item) (t u : List ℕ) → lineOf stamp is ++ t ≡ lineOf was js ++ u → (stamp ≡ was) × (is ≡ js) × (t ≡ u)
-unfolding lineOf
+pub line-inj : (stamp was : ℕ) (is js : List Item) (t u : List ℕ) → messageText stamp is ++ t ≡ messageText was js ++ u → (stamp ≡ was) × (is ≡ js) × (t ≡ u)
+unfolding messageText
 line-inj stamp was is js t u e =
     let spread : (n : ℕ) (is : List Item) (t : List ℕ) → field (pos n) ++ itemsText is ++ (10 ∷ []) ++ t ≡ field (pos n) ++ (itemsText is ++ (10 ∷ t)) =
     (λ n is t. append-assoc (field (pos n) ++ itemsText is) (10 ∷ []) t ∙ append-assoc (field (pos n)) (itemsText is) (10 ∷ t)) in
@@ -71,24 +71,24 @@ line-inj stamp was is js t u e =
     (c, b .0, b .1)
 
 -- the text of versions that are not of the form: a key twice, 17 of them, none, a number out of its range
-pub bad-form : (stamp : ℕ) (items : List Item) → (InForm stamp items → ⊥) → readLine (lineOf stamp items) ≡ bad
+pub bad-form : (stamp : ℕ) (items : List Item) → (IsMessage stamp items → ⊥) → readLine (messageText stamp items) ≡ bad
 bad-form stamp items n =
-    bad-exactly (lineOf stamp items) .1
+    bad-exactly (messageText stamp items) .1
     (λ was js f e.
-    let a : (stamp ≡ was) × (items ≡ js) × (_≡_ {A = List ℕ} [] []) = line-inj stamp was items js [] [] (append-nil (lineOf stamp items) ∙ e ∙ sym (append-nil (lineOf was js))) in
-    n (subst (λ (k : ℕ). InForm k items) (sym (a .0)) (subst (InForm was) (sym (a .1)) f)))
+    let a : (stamp ≡ was) × (items ≡ js) × (_≡_ {A = List ℕ} [] []) = line-inj stamp was items js [] [] (append-nil (messageText stamp items) ∙ e ∙ sym (append-nil (messageText was js))) in
+    n (subst (λ (k : ℕ). IsMessage k items) (sym (a .0)) (subst (IsMessage was) (sym (a .1)) f)))
 
 -- anything behind the newline, a second newline too
-pub bad-behind : (stamp : ℕ) (items : List Item) (b : ℕ) (t : List ℕ) → readLine (lineOf stamp items ++ (b ∷ t)) ≡ bad
+pub bad-behind : (stamp : ℕ) (items : List Item) (b : ℕ) (t : List ℕ) → readLine (messageText stamp items ++ (b ∷ t)) ≡ bad
 bad-behind stamp items b t =
-    bad-exactly (lineOf stamp items ++ (b ∷ t)) .1
+    bad-exactly (messageText stamp items ++ (b ∷ t)) .1
     (λ was js f e.
-    let a : (stamp ≡ was) × (items ≡ js) × (b ∷ t ≡ []) = line-inj stamp was items js (b ∷ t) [] (e ∙ sym (append-nil (lineOf was js))) in
+    let a : (stamp ≡ was) × (items ≡ js) × (b ∷ t ≡ []) = line-inj stamp was items js (b ∷ t) [] (e ∙ sym (append-nil (messageText was js))) in
     omega (arith, ap length (a .2)))
 
 -- a line is its newline behind all else
-ended : (stamp : ℕ) (items : List Item) → lineOf stamp items ≡ (112 ∷ (field (pos stamp) ++ itemsText items)) ++ (10 ∷ [])
-unfolding lineOf
+ended : (stamp : ℕ) (items : List Item) → messageText stamp items ≡ (112 ∷ (field (pos stamp) ++ itemsText items)) ++ (10 ∷ [])
+unfolding messageText
 ended stamp items = refl
 
 -- no newline at the end
@@ -115,16 +115,16 @@ first = 112 ∷ 9 ∷ 51 ∷ 9 ∷ 53 ∷ 9 ∷ 49 ∷ 9 ∷ 45 ∷ 50 ∷ 48 �
 -- no newline; two; a leading zero in the stamp; a second tab; a space at the end; another letter; nothing at all
 pub edges :
     (readLine first ≡ whole 3 (record { key = 5; ordinal = record { 0 = 1 }; value = negsuc 2047 } ∷ []))
-    × (readLine (lineOf 3 (run 16 4096)) ≡ whole 3 (run 16 4096))
-    × (readLine (lineOf 3 (run 17 4096)) ≡ bad)
-    × (readLine (lineOf 3 []) ≡ bad)
-    × (readLine (lineOf 3 (run 1 4097)) ≡ bad)
-    × (readLine (lineOf 3 (run 1 0)) ≡ bad)
-    × (readLine (lineOf 3 (record { key = 64; ordinal = record { 0 = 1 }; value = pos 0 } ∷ [])) ≡ bad)
-    × (readLine (lineOf 3 (run 2 1 ++ run 1 2)) ≡ bad)
-    × (readLine (lineOf 0 (run 1 1)) ≡ bad)
-    × (readLine (lineOf 4294967295 (run 1 1)) ≡ whole 4294967295 (run 1 1))
-    × (readLine (lineOf 4294967296 (run 1 1)) ≡ bad)
+    × (readLine (messageText 3 (run 16 4096)) ≡ whole 3 (run 16 4096))
+    × (readLine (messageText 3 (run 17 4096)) ≡ bad)
+    × (readLine (messageText 3 []) ≡ bad)
+    × (readLine (messageText 3 (run 1 4097)) ≡ bad)
+    × (readLine (messageText 3 (run 1 0)) ≡ bad)
+    × (readLine (messageText 3 (record { key = 64; ordinal = record { 0 = 1 }; value = pos 0 } ∷ [])) ≡ bad)
+    × (readLine (messageText 3 (run 2 1 ++ run 1 2)) ≡ bad)
+    × (readLine (messageText 0 (run 1 1)) ≡ bad)
+    × (readLine (messageText 4294967295 (run 1 1)) ≡ whole 4294967295 (run 1 1))
+    × (readLine (messageText 4294967296 (run 1 1)) ≡ bad)
     × (readLine (112 ∷ 9 ∷ 51 ∷ 9 ∷ 53 ∷ 9 ∷ 49 ∷ 9 ∷ 45 ∷ 50 ∷ 48 ∷ 52 ∷ 56 ∷ []) ≡ bad)
     × (readLine (first ++ (10 ∷ [])) ≡ bad)
     × (readLine (112 ∷ 9 ∷ 48 ∷ 51 ∷ 9 ∷ 53 ∷ 9 ∷ 49 ∷ 9 ∷ 48 ∷ 10 ∷ []) ≡ bad)
@@ -132,5 +132,5 @@ pub edges :
     × (readLine (112 ∷ 9 ∷ 51 ∷ 9 ∷ 53 ∷ 9 ∷ 49 ∷ 9 ∷ 48 ∷ 32 ∷ 10 ∷ []) ≡ bad)
     × (readLine (113 ∷ 9 ∷ 51 ∷ 9 ∷ 53 ∷ 9 ∷ 49 ∷ 9 ∷ 48 ∷ 10 ∷ []) ≡ bad)
     × (readLine [] ≡ bad)
-unfolding first run readLine itemsAt itemAt naturalBehindTab signedBehindTab onNumber onValue onPiece endsAt closed distinct any lineOf joined itemText naturalAt signedAt asNatural asSigned fieldAt digits more unsigned negative decimal spelt isDigit
+unfolding first run readLine itemsAt itemAt naturalBehindTab signedBehindTab onNumber onValue onPiece endsAt ifDistinct distinct any messageText joined itemText naturalAt signedAt asNatural asSigned fieldAt digits more unsigned negative decimal spelt isDigit
 edges = (refl, refl, refl, refl, refl, refl, refl, refl, refl, refl, refl, refl, refl, refl, refl, refl, refl, refl)

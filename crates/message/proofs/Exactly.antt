@@ -2,16 +2,19 @@
 use Prim.Native.Nat.{ℕ, zero, suc, _+_, _≤_}
 use native.Mathlib.Omega.{arith}
 use mathlib.Core.Path.{_≡_, refl, sym, ap, _∙_}
-use mathlib.Core.Logic.{_↔_}
-use mathlib.Core.Bool.{Bool, true, false, cond, _&&_}
-use mathlib.Core.List.{List, [], _∷_, _++_, append-assoc, append-nil}
-use borrow.Author.Tests.{eq-eqb, ne-eqb, eqb-true}
+use mathlib.Core.Logic.{_↔_, _≢_}
+use mathlib.Core.Bool.{Bool, true, false, cond, not, _&&_, true≢false}
+use mathlib.Core.List.{List, [], _∷_, _++_, map, append-assoc, append-nil}
+use borrow.Author.Tests.{eq-eqb, ne-eqb, eqb-true, eqb-false}
 use lib.Dec.{eqb}
 use lib.IntN.{pos}
 use lib.ListN.{length, getD, drop, take, length-drop, drop-of-length-le}
 use Rattle.units.proofs.Batches.{batch-items}
 use Rattle.units.specs.declared.Item.{Item}
-use Rattle.lists.specs.Lists.{Every, none, also}
+use Rattle.lists.specs.Lists.{any, Every, none, also}
+use Rattle.lists.specs.Members.{Distinct, empty, apart}
+use Rattle.lists.proofs.Every.{every-map, any-none, none-any}
+use Rattle.lists.proofs.Images.{every-image, image-every}
 use Rattle.decimal.specs.Text.{field, joined}
 use Rattle.decimal.specs.Read.{naturals, naturalBehindTab, onNumber, Tabbed}
 use Rattle.decimal.specs.Write.{Puts}
@@ -19,14 +22,35 @@ use Rattle.decimal.specs.declared.read.Natural.{Natural}
 use Rattle.decimal.proofs.Reading.{after, head-of}
 use Rattle.decimal.proofs.Tabs.{byte-stands, natural-tabbed, tabbed-stands, tabbed-at, Took, number-took}
 use Rattle.decimal.proofs.Putting.{puts-front}
-use Rattle.message.specs.Line.{itemText, itemsText, lineOf, InRanges, distinct, InForm, itemsOf}
-use Rattle.message.specs.Read.{Reading, whole, bad, onPiece, itemAt, endsAt, closed, itemsAt, readLine, messageOf}
-use Rattle.message.specs.declared.read.Form.{Form}
+use Rattle.message.specs.Line.{itemText, itemsText, messageText, InRanges, IsMessage}
+use Rattle.message.specs.Read.{Reading, whole, bad, isOfKey, distinct, onPiece, itemAt, endsAt, ifDistinct, itemsAt, readLine, messageOf, says, lineReply, readingReply}
+use Rattle.message.specs.declared.read.Message.{Message}
 use Rattle.message.specs.declared.read.Piece.{Piece}
 use Rattle.message.proofs.Items.{ItemAt, item-reads, item-back, piece-took, stops-items}
 
 no-reading : {A : Type 0} (stamp : ℕ) (items : List Item) → bad ≡ whole stamp items → A
 no-reading stamp items q = let z : _≡_ {A = ℕ} 0 1 = cc in absurd (omega arith)
+
+-- ---- "no key twice"
+
+distinct-apart : (items : List Item) → distinct items ≡ true → Distinct (map (λ (i : Item). i .key) items)
+unfolding distinct
+distinct-apart [] h = empty
+distinct-apart (i ∷ is) h = go (any (isOfKey (i .key)) is) refl h (distinct-apart is)
+  where
+    go : (t : Bool) → any (isOfKey (i .key)) is ≡ t → (not t && distinct is) ≡ true → (distinct is ≡ true → Distinct (map (λ (j : Item). j .key) is)) → Distinct (i .key ∷ map (λ (j : Item). j .key) is)
+    go true e h r = absurd (true≢false (sym h))
+    go false e h r =
+        apart (every-image (λ (k : ℕ). k ≢ i .key) (λ (j : Item). j .key) (every-map (λ (j : Item) q. eqb-false (j .key) (i .key) q) (none-any (isOfKey (i .key)) is e))) (r h)
+
+apart-distinct : (items : List Item) → Distinct (map (λ (i : Item). i .key) items) → distinct items ≡ true
+unfolding distinct
+apart-distinct [] d = refl
+apart-distinct (i ∷ is) (apart n d) =
+    rw (any-none (isOfKey (i .key)) (every-map (λ (j : Item) h. ne-eqb (j .key) (i .key) h) (image-every (λ (k : ℕ). k ≢ i .key) (λ (j : Item). j .key) is n)), apart-distinct is d)
+
+pub distinct-exactly : (items : List Item) → (distinct items ≡ true) ↔ Distinct (map (λ (i : Item). i .key) items)
+distinct-exactly items = (distinct-apart items, apart-distinct items)
 
 -- ---- the end of the line
 
@@ -67,9 +91,9 @@ record ReadOn (stamp left : ℕ) (s : List ℕ) (at : ℕ) (seen : List Item) (w
   few : length rest ≤ left
   apart : distinct items ≡ true
 
-closed-is : (stamp : ℕ) (xs : List Item) (was : ℕ) (items : List Item) → closed stamp xs ≡ whole was items → (stamp ≡ was) × (items ≡ xs) × (distinct xs ≡ true)
-unfolding closed
-closed-is stamp xs was items q = go (distinct xs) refl q
+distinct-is : (stamp : ℕ) (xs : List Item) (was : ℕ) (items : List Item) → ifDistinct stamp xs ≡ whole was items → (stamp ≡ was) × (items ≡ xs) × (distinct xs ≡ true)
+unfolding ifDistinct
+distinct-is stamp xs was items q = go (distinct xs) refl q
   where
     go : (t : Bool) → distinct xs ≡ t → cond t (whole stamp xs) bad ≡ whole was items → (stamp ≡ was) × (items ≡ xs) × (distinct xs ≡ true)
     go true d q = let a : stamp ≡ was = cc in let b : items ≡ xs = cc in (a, b, d)
@@ -77,11 +101,11 @@ closed-is stamp xs was items q = go (distinct xs) refl q
 
 module _ (stamp : ℕ) (s : List ℕ) (was : ℕ) (items : List Item) where
   -- one version, and the end
-  read-last : (left at : ℕ) (seen : List Item) (i : Item) (e : ℕ) → ItemAt s at i e → endsAt s e ≡ true → closed stamp (seen ++ (i ∷ [])) ≡ whole was items
+  read-last : (left at : ℕ) (seen : List Item) (i : Item) (e : ℕ) → ItemAt s at i e → endsAt s e ≡ true → ifDistinct stamp (seen ++ (i ∷ [])) ≡ whole was items
       → ReadOn stamp (suc left) s at seen was items
   unfolding joined
   read-last left at seen i e p h q =
-      let c : (stamp ≡ was) × (items ≡ seen ++ (i ∷ [])) × (distinct (seen ++ (i ∷ [])) ≡ true) = closed-is stamp (seen ++ (i ∷ [])) was items q in
+      let c : (stamp ≡ was) × (items ≡ seen ++ (i ∷ [])) × (distinct (seen ++ (i ∷ [])) ≡ true) = distinct-is stamp (seen ++ (i ∷ [])) was items q in
       record {
         rest = i ∷ [];
         all = c .1;
@@ -112,12 +136,12 @@ module _ (stamp : ℕ) (s : List ℕ) (was : ℕ) (items : List Item) where
   unfolding itemsAt
   items-read zero at seen q = no-reading was items q
   items-read (suc left) at seen q =
-      let t : Took Piece.At (itemAt s at) (λ i e. cond (endsAt s e) (closed stamp (seen ++ (i ∷ []))) (itemsAt stamp left s e (seen ++ (i ∷ [])))) (whole was items) =
-      piece-took (itemAt s at) (λ i e. cond (endsAt s e) (closed stamp (seen ++ (i ∷ []))) (itemsAt stamp left s e (seen ++ (i ∷ [])))) bad (whole was items) (no-reading was items) q in
+      let t : Took Piece.At (itemAt s at) (λ i e. cond (endsAt s e) (ifDistinct stamp (seen ++ (i ∷ []))) (itemsAt stamp left s e (seen ++ (i ∷ [])))) (whole was items) =
+      piece-took (itemAt s at) (λ i e. cond (endsAt s e) (ifDistinct stamp (seen ++ (i ∷ []))) (itemsAt stamp left s e (seen ++ (i ∷ [])))) bad (whole was items) (no-reading was items) q in
       go (t .v) (t .e) (item-reads s at (t .v) (t .e) (t .is)) (endsAt s (t .e)) refl (items-read left (t .e) (seen ++ (t .v ∷ []))) (t .goes)
     where
       go : (i : Item) (e : ℕ) → ItemAt s at i e → (t : Bool) → endsAt s e ≡ t → (itemsAt stamp left s e (seen ++ (i ∷ [])) ≡ whole was items → ReadOn stamp left s e (seen ++ (i ∷ [])) was items)
-          → cond t (closed stamp (seen ++ (i ∷ []))) (itemsAt stamp left s e (seen ++ (i ∷ []))) ≡ whole was items → ReadOn stamp (suc left) s at seen was items
+          → cond t (ifDistinct stamp (seen ++ (i ∷ []))) (itemsAt stamp left s e (seen ++ (i ∷ []))) ≡ whole was items → ReadOn stamp (suc left) s at seen was items
       go i e p true h r q = read-last left at seen i e p h q
       go i e p false h r q = read-more left at seen i e p (r q)
 
@@ -132,7 +156,7 @@ module _ (stamp : ℕ) (s : List ℕ) where
 
   items-back : (left at : ℕ) (seen rest : List Item) → drop at s ≡ itemsText rest ++ (10 ∷ []) → Every InRanges rest → 1 ≤ length rest → length rest ≤ left → distinct (seen ++ rest) ≡ true
       → itemsAt stamp left s at seen ≡ whole stamp (seen ++ rest)
-  unfolding itemsAt onPiece closed joined itemText
+  unfolding itemsAt onPiece ifDistinct joined itemText
   items-back left at seen [] text none some few d = absurd (omega arith)
   items-back zero at seen (i ∷ rest) text (also p ps) some few d = absurd (omega arith)
   items-back (suc left) at seen (i ∷ []) text (also p none) some few d =
@@ -147,11 +171,11 @@ module _ (stamp : ℕ) (s : List ℕ) where
 -- ---- the line
 
 module _ (s : List ℕ) (stamp : ℕ) (items : List Item) where
-  line-reads : readLine s ≡ whole stamp items → (s ≡ lineOf stamp items) × InForm stamp items
-  unfolding readLine lineOf
+  line-reads : readLine s ≡ whole stamp items → (s ≡ messageText stamp items) × IsMessage stamp items
+  unfolding readLine messageText
   line-reads q = go (eqb (getD s 0 0) 112) refl q
     where
-      line-is : (was e : ℕ) → eqb (getD s 0 0) 112 ≡ true → Tabbed (naturals 1 4294967295) s 1 (pos was) e → ReadOn was 16 s e [] stamp items → (s ≡ lineOf stamp items) × InForm stamp items
+      line-is : (was e : ℕ) → eqb (getD s 0 0) 112 ≡ true → Tabbed (naturals 1 4294967295) s 1 (pos was) e → ReadOn was 16 s e [] stamp items → (s ≡ messageText stamp items) × IsMessage stamp items
       line-is was e h t r =
           let first : s ≡ 112 ∷ drop 1 s = byte-stands s 0 112 (omega arith) (eqb-true (getD s 0 0) 112 h) .here in
           let text : drop 1 s ≡ field (pos was) ++ itemsText items ++ (10 ∷ []) =
@@ -165,64 +189,64 @@ module _ (s : List ℕ) (stamp : ℕ) (items : List Item) where
               some = rw (r .all) (r .some);
               few = rw (r .all) (r .few);
               ranges = rw (r .all) (r .ranges);
-              apart = r .apart;
+              apart = distinct-exactly items .0 (r .apart);
             },
           )
 
-      go : (t : Bool) → eqb (getD s 0 0) 112 ≡ t → cond t (onNumber (naturalBehindTab s 1 1 4294967295) (λ was e. itemsAt was 16 s e []) bad) bad ≡ whole stamp items → (s ≡ lineOf stamp items) × InForm stamp items
+      go : (t : Bool) → eqb (getD s 0 0) 112 ≡ t → cond t (onNumber (naturalBehindTab s 1 1 4294967295) (λ was e. itemsAt was 16 s e []) bad) bad ≡ whole stamp items → (s ≡ messageText stamp items) × IsMessage stamp items
       go true h q =
           let t : Took Natural.Number (naturalBehindTab s 1 1 4294967295) (λ was e. itemsAt was 16 s e []) (whole stamp items) =
           number-took (naturalBehindTab s 1 1 4294967295) (λ was e. itemsAt was 16 s e []) bad (whole stamp items) (no-reading stamp items) q in
           line-is (t .v) (t .e) h (natural-tabbed s 1 1 4294967295 (t .v) (t .e) .0 (t .is)) (items-read (t .v) s stamp items 16 (t .e) [] (t .goes))
       go false h q = no-reading stamp items q
 
-line-starts : (stamp : ℕ) (items : List Item) → eqb (getD (lineOf stamp items) 0 0) 112 ≡ true
-unfolding lineOf
+line-starts : (stamp : ℕ) (items : List Item) → eqb (getD (messageText stamp items) 0 0) 112 ≡ true
+unfolding messageText
 line-starts stamp items = refl
 
-line-behind : (stamp : ℕ) (items : List Item) → drop 1 (lineOf stamp items) ≡ field (pos stamp) ++ (itemsText items ++ (10 ∷ []))
-unfolding lineOf
+line-behind : (stamp : ℕ) (items : List Item) → drop 1 (messageText stamp items) ≡ field (pos stamp) ++ (itemsText items ++ (10 ∷ []))
+unfolding messageText
 line-behind stamp items = append-assoc (field (pos stamp)) (itemsText items) (10 ∷ [])
 
 -- reading what was written gives the same stamp and versions back
-pub line-back : (stamp : ℕ) (items : List Item) → InForm stamp items → readLine (lineOf stamp items) ≡ whole stamp items
+pub line-back : (stamp : ℕ) (items : List Item) → IsMessage stamp items → readLine (messageText stamp items) ≡ whole stamp items
 unfolding readLine onNumber
 line-back stamp items f =
-    let s : List ℕ = lineOf stamp items in
+    let s : List ℕ = messageText stamp items in
     let text : drop 1 s ≡ field (pos stamp) ++ (itemsText items ++ (10 ∷ [])) = line-behind stamp items in
     let t : Tabbed (naturals 1 4294967295) s 1 (pos stamp) (1 + length (field (pos stamp))) =
     tabbed-at s 1 (naturals 1 4294967295) (pos stamp) (itemsText items ++ (10 ∷ [])) text (stops-items items []) (f .early, f .late) in
     let left : drop (1 + length (field (pos stamp))) s ≡ itemsText items ++ (10 ∷ []) = after s (field (pos stamp)) (itemsText items ++ (10 ∷ [])) 1 text in
     rw (line-starts stamp items, natural-tabbed s 1 1 4294967295 stamp (1 + length (field (pos stamp))) .1 t)
-    (items-back stamp s 16 (1 + length (field (pos stamp))) [] items left (f .ranges) (f .some) (f .few) (f .apart))
+    (items-back stamp s 16 (1 + length (field (pos stamp))) [] items left (f .ranges) (f .some) (f .few) (distinct-exactly items .1 (f .apart)))
 
 -- the form of document 01, both ways
-pub exactly : (s : List ℕ) (stamp : ℕ) (items : List Item) → (readLine s ≡ whole stamp items) ↔ ((s ≡ lineOf stamp items) × InForm stamp items)
+pub exactly : (s : List ℕ) (stamp : ℕ) (items : List Item) → (readLine s ≡ whole stamp items) ↔ ((s ≡ messageText stamp items) × IsMessage stamp items)
 exactly s stamp items = (line-reads s stamp items, λ h. ap readLine (h .0) ∙ line-back stamp items (h .1))
 
 -- a line is refused exactly if it is no such text
-pub bad-exactly : (s : List ℕ) → (readLine s ≡ bad) ↔ ((stamp : ℕ) (items : List Item) → InForm stamp items → s ≡ lineOf stamp items → ⊥)
+pub bad-exactly : (s : List ℕ) → (readLine s ≡ bad) ↔ ((stamp : ℕ) (items : List Item) → IsMessage stamp items → s ≡ messageText stamp items → ⊥)
 bad-exactly s =
     (λ q stamp items f e. no-reading stamp items (sym q ∙ exactly s stamp items .1 (e, f)), λ n. go (readLine s) refl n)
   where
-    go : (r : Reading) → readLine s ≡ r → ((stamp : ℕ) (items : List Item) → InForm stamp items → s ≡ lineOf stamp items → ⊥) → readLine s ≡ bad
+    go : (r : Reading) → readLine s ≡ r → ((stamp : ℕ) (items : List Item) → IsMessage stamp items → s ≡ messageText stamp items → ⊥) → readLine s ≡ bad
     go (whole stamp items) q n = absurd (n stamp items (line-reads s stamp items q .1) (line-reads s stamp items q .0))
     go bad q n = q
 
 -- ---- as the code hands it over
 
--- what is answered whole is a message of the form, and the line is its text
-pub message-whole : (s : List ℕ) → messageOf (readLine s) .form ≡ Form.Whole
-    → (s ≡ lineOf (messageOf (readLine s) .stamp .0) (itemsOf (messageOf (readLine s) .batch))) × InForm (messageOf (readLine s) .stamp .0) (itemsOf (messageOf (readLine s) .batch))
+-- the reply in document 01's numbers
+message-reply : (s : List ℕ) → lineReply (messageOf (readLine s)) ≡ readingReply (readLine s)
 unfolding messageOf
-message-whole s h = go (readLine s) refl h
+message-reply s = go (readLine s) refl
   where
-    go : (r : Reading) → readLine s ≡ r → messageOf r .form ≡ Form.Whole → (s ≡ lineOf (messageOf r .stamp .0) (itemsOf (messageOf r .batch))) × InForm (messageOf r .stamp .0) (itemsOf (messageOf r .batch))
-    go (whole stamp items) q h =
-        let l : (s ≡ lineOf stamp items) × InForm stamp items = line-reads s stamp items q in
-        rw (batch-items items (l .1 .few)) l
-    go bad q h = let z : _≡_ {A = ℕ} 0 1 = cc in absurd (omega arith)
+    go : (r : Reading) → readLine s ≡ r → lineReply (messageOf r) ≡ readingReply r
+    go (whole stamp items) q = ap (says stamp) (batch-items items (line-reads s stamp items q .1 .few))
+    go bad q = refl
+
+pub message-answered : (s : List ℕ) {m : Message} → m ≡ messageOf (readLine s) → (lineReply m ≡ readingReply (readLine s)) × (m ≡ messageOf (readLine s))
+message-answered s e = (ap lineReply e ∙ message-reply s, e)
 
 -- a message of the form that was put at the front of a room is read back from there
-pub written-back : {b c : List ℕ} {r : ℕ} (stamp : ℕ) (items : List Item) → InForm stamp items → Puts b c 0 (lineOf stamp items) r → readLine (take r c) ≡ whole stamp items
+pub written-back : {b c : List ℕ} {r : ℕ} (stamp : ℕ) (items : List Item) → IsMessage stamp items → Puts b c 0 (messageText stamp items) r → readLine (take r c) ≡ whole stamp items
 written-back stamp items f p = ap readLine (puts-front p) ∙ line-back stamp items f

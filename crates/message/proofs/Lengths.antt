@@ -12,8 +12,8 @@ use Rattle.decimal.specs.Read.{naturalAt, signedAt, asNatural, asSigned, fieldA
 use Rattle.decimal.specs.Text.{field, joined, decimal, spelt, isDigit}
 use Rattle.decimal.proofs.Digits.{decimal-length, decimal-32, plain-32}
 use Rattle.decimal.proofs.Values.{value-small}
-use Rattle.message.specs.Line.{itemText, itemsText, lineOf, distinct, InRanges, InForm, longest}
-use Rattle.message.specs.Read.{whole, readLine, itemsAt, itemAt, onValue, onPiece, endsAt, closed}
+use Rattle.message.specs.Line.{itemText, itemsText, messageText, InRanges, IsMessage, longest}
+use Rattle.message.specs.Read.{whole, readLine, itemsAt, itemAt, onValue, onPiece, endsAt, distinct, ifDistinct}
 
 pub item-length : (i : Item) → length (itemText i) ≡ length (field (pos (i .key))) + length (field (pos (i .ordinal .0))) + length (field (i .value))
 unfolding itemText
@@ -36,12 +36,12 @@ unfolding joined
 items-of-form none = omega arith
 items-of-form (also {x = i} {xs = is} p ps) = omega (arith, length-append (itemText i) (itemsText is), item-of-form i p, items-of-form ps)
 
-pub line-length : (stamp : ℕ) (items : List Item) → length (lineOf stamp items) ≡ suc (length (field (pos stamp)) + length (itemsText items) + 1)
-unfolding lineOf
+pub line-length : (stamp : ℕ) (items : List Item) → length (messageText stamp items) ≡ suc (length (field (pos stamp)) + length (itemsText items) + 1)
+unfolding messageText
 line-length stamp items = omega (arith, length-append (field (pos stamp) ++ itemsText items) (10 ∷ []), length-append (field (pos stamp)) (itemsText items))
 
 -- a message of the form
-pub line-of-form : (stamp : ℕ) (items : List Item) → InForm stamp items → length (lineOf stamp items) ≤ longest
+pub line-of-form : (stamp : ℕ) (items : List Item) → IsMessage stamp items → length (messageText stamp items) ≤ longest
 line-of-form stamp items f = omega (arith, line-length stamp items, decimal-32 stamp (omega (arith, f .late)), items-of-form (f .ranges), f .few)
 
 -- and one that is as long: the last stamp, sixteen keys of two digits, each with the last ordinal and the lowest value
@@ -49,6 +49,6 @@ pub fullest : ℕ → List Item
 fullest zero = []
 fullest (suc n) = record { key = 48 + n; ordinal = record { 0 = 4096 }; value = negsuc 2147483647 } ∷ fullest n
 
-pub longest-reached : (length (lineOf 4294967295 (fullest 16)) ≡ longest) × (readLine (lineOf 4294967295 (fullest 16)) ≡ whole 4294967295 (fullest 16))
-unfolding fullest readLine itemsAt itemAt naturalBehindTab signedBehindTab onNumber onValue onPiece endsAt closed distinct any lineOf joined itemText naturalAt signedAt asNatural asSigned fieldAt digits more unsigned negative decimal spelt isDigit
+pub longest-reached : (length (messageText 4294967295 (fullest 16)) ≡ longest) × (readLine (messageText 4294967295 (fullest 16)) ≡ whole 4294967295 (fullest 16))
+unfolding fullest readLine itemsAt itemAt naturalBehindTab signedBehindTab onNumber onValue onPiece endsAt ifDistinct distinct any messageText joined itemText naturalAt signedAt asNatural asSigned fieldAt digits more unsigned negative decimal spelt isDigit
 longest-reached = (refl, refl)

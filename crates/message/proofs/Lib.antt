@@ -6,3 +6,5 @@ pub mod Lengths
 pub mod Putting
 pub mod Exactly
 pub mod Bad
+pub mod Determined
+pub mod Room

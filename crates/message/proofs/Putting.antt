@@ -17,7 +17,7 @@ use Rattle.decimal.specs.declared.write.Put.the-variants.{Next, Full}
 use Rattle.decimal.proofs.Writing.{put-length}
 use Rattle.decimal.proofs.Putting.{puts-one, puts-next, puts-full, puts-length, puts-then, puts-more}
 use Rattle.decimal.proofs.Digits.{decimal-32}
-use Rattle.message.specs.Line.{itemText, itemsText, lineOf, noItem}
+use Rattle.message.specs.Line.{itemText, itemsText, messageText, noItem}
 use Rattle.message.proofs.Lengths.{item-length, item-longest}
 
 -- ---- a field
@@ -82,8 +82,8 @@ module _ (b : List ℕ) (stamp : ℕ) (items : List Item) (room : length b ≡ 4
       pub end-small : end + 1 ≤ 445
       end-small = omega (arith, p .place, q .1, decimal-32 stamp small)
 
-      pub line-put : {g : List ℕ} → g ≡ put f end (10 ∷ []) → (Puts b g 0 (lineOf stamp items) (end + 1)) × (end + 1 ≤ 445)
-      unfolding lineOf
+      pub line-put : {g : List ℕ} → g ≡ put f end (10 ∷ []) → (Puts b g 0 (messageText stamp items) (end + 1)) × (end + 1 ≤ 445)
+      unfolding messageText
       line-put h =
           let letter : Puts b c 0 (112 ∷ []) 1 = puts-one (omega arith) e in
           let newline : Puts f _ end (10 ∷ []) (end + 1) = puts-one (omega (arith, end-small, puts-length (q .0), puts-length p, puts-length letter)) h in

@@ -21,8 +21,8 @@ use Rattle.decimal.specs.declared.read.Natural.{Natural}
 use Rattle.decimal.specs.declared.read.Signed.{Signed}
 use Rattle.decimal.proofs.Values.{value-small}
 use Rattle.decimal.proofs.Tabs.{signed-tabbed}
-use Rattle.message.specs.Line.{named, distinct, noItem, batchOf}
-use Rattle.message.specs.Read.{Reading, whole, bad, onValue, onPiece, itemAt, endsAt, closed, itemsAt, readLine, message, noMessage, messageOf, closedMessage}
+use Rattle.message.specs.Line.{noItem, batchOf}
+use Rattle.message.specs.Read.{Reading, whole, bad, isOfKey, distinct, onValue, onPiece, itemAt, endsAt, ifDistinct, itemsAt, readLine, message, noMessage, messageOf, messageIfDistinct}
 use Rattle.message.specs.declared.read.Message.{Message}
 use Rattle.message.specs.declared.read.Piece.{Piece}
 
@@ -58,7 +58,7 @@ module _ (l : List Item) (i : ℕ) where
   unfolding distinct
   distinct-over h = rw (drop-of-length-le l h)
 
-  module _ (h : i < length l) {t : Bool} (e : t ≡ any (named (getD l i noItem .key)) (drop (i + 1) l)) where
+  module _ (h : i < length l) {t : Bool} (e : t ≡ any (isOfKey (getD l i noItem .key)) (drop (i + 1) l)) where
     pub distinct-twice : t ≡ true → distinct (drop i l) ≡ false
     unfolding distinct
     distinct-twice q = rw (drop-cons l i noItem h, ← add-one i, ← e, q)
@@ -108,7 +108,7 @@ module _ (stamp : ℕ) (s : List ℕ) (from : ℕ) where
 
         -- what the line goes on to, whether it ends here or not
         onward : Bool → Reading
-        onward t = cond t (closed stamp (f .seen ++ (i ∷ []))) (itemsAt stamp (16 - (n + 1)) s e (f .seen ++ (i ∷ [])))
+        onward t = cond t (ifDistinct stamp (f .seen ++ (i ∷ []))) (itemsAt stamp (16 - (n + 1)) s e (f .seen ++ (i ∷ [])))
 
         one-more : (t : Bool) → endsAt s e ≡ t → onward t ≡ itemsAt stamp 16 s from []
         unfolding itemsAt onPiece onward
@@ -116,10 +116,10 @@ module _ (stamp : ℕ) (s : List ℕ) (from : ℕ) where
             let x : onward (endsAt s e) ≡ itemsAt stamp (suc (16 - (n + 1))) s at (f .seen) = rw (← q, b) in
             ap onward (sym h) ∙ x ∙ ap (λ (k : ℕ). itemsAt stamp k s at (f .seen)) fuel ∙ f .left
 
-        pub items-end : endsAt s e ≡ true → {r : Message} → r ≡ closedMessage stamp more → r ≡ messageOf (itemsAt stamp 16 s from [])
-        unfolding closedMessage closed messageOf onward
+        pub items-end : endsAt s e ≡ true → {r : Message} → r ≡ messageIfDistinct stamp more → r ≡ messageOf (itemsAt stamp 16 s from [])
+        unfolding messageIfDistinct ifDistinct messageOf onward
         items-end t d =
-            let x : closedMessage stamp more ≡ messageOf (closed stamp (f .seen ++ (i ∷ []))) =
+            let x : messageIfDistinct stamp more ≡ messageOf (ifDistinct stamp (f .seen ++ (i ∷ []))) =
             rw (made-now, batch-items (f .seen ++ (i ∷ [])) (omega (arith, long))) (both (distinct (f .seen ++ (i ∷ [])))) in
             d ∙ x ∙ ap messageOf (one-more true t)
           where

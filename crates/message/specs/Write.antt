@@ -1,11 +1,19 @@
--- Writing a message line. Document 01, 17: "the whole output or message is longer than the lent room".
+-- Writing a message line, in document 01's numbers: the bytes of the line, or 17, "the whole output or message is longer than the lent room".
 use Prim.Native.Nat.{ℕ}
 use mathlib.Core.List.{List}
-use Rattle.units.specs.declared.refusal.Refusal.the-variants.{NoRoom}
+use Rattle.units.specs.Refusal.{numberOf}
 use Rattle.decimal.specs.Write.{handedOver}
-use Rattle.message.specs.declared.write.Sent.{Sent}
-use Rattle.message.specs.declared.write.Sent.the-variants.{Bytes, Refused}
+use Rattle.message.specs.declared.write.MessageAnswer.{MessageAnswer}
+use Rattle.message.specs.declared.write.MessageAnswer.the-variants.{Bytes, Refused}
 
--- what is answered where the text t is to go to the room b
-unfoldable pub sentAs : List ℕ → List ℕ → Sent
-sentAs b t = handedOver Bytes (Refused NoRoom) b t
+pub data MessageReply : Type 0 where
+  bytes : ℕ → MessageReply
+  refused : (number : ℕ) → MessageReply
+
+abbrev pub messageReply : MessageAnswer → MessageReply
+messageReply (Bytes n) = bytes n
+messageReply (Refused f) = refused (numberOf f)
+
+-- what is replied where a text is to go to the front of a room
+unfoldable pub textReply : List ℕ → List ℕ → MessageReply
+textReply room text = handedOver bytes (refused 17) room text

@@ -13,7 +13,7 @@ mod write;
 pub use read::Form;
 pub use read::Message;
 pub use read::read_message;
-pub use write::Sent;
+pub use write::MessageAnswer;
 pub use write::write_message;
 
 const LETTER: u8 = b'p';

@@ -4,8 +4,8 @@ ghost use mathlib.Core.Path.{_≡_};
 ghost use mathlib.Core.List.{[]};
 ghost use lib.ListN.{drop};
 ghost use Rattle.lists.specs.Lists.{any};
-ghost use Rattle.message.specs.Line.{named, distinct, itemsOf, batchOf};
-ghost use Rattle.message.specs.Read.{itemAt, endsAt, itemsAt, readLine, messageOf, noMessage, closedMessage};
+ghost use Rattle.message.specs.Line.{itemsOf};
+ghost use Rattle.message.specs.Read.{isOfKey, distinct, itemAt, endsAt, itemsAt, readLine, messageOf, noMessage, messageIfDistinct, lineReply, readingReply};
 use crate::LETTER;
 use crate::size;
 use decimal::NEWLINE;
@@ -39,7 +39,8 @@ enum Piece {
 }
 
 pub fn read_message(line: &[u8]) -> Message
-    ensures { λ r. ⌜ r ≡ messageOf (readLine (now (line .entry))) ⌝ }
+    ensures reply { λ r. ⌜ lineReply r ≡ readingReply (readLine (now (line .entry))) ⌝ }
+    ensures places { λ r. ⌜ r ≡ messageOf (readLine (now (line .entry))) ⌝ }
 {
     if byte_at(line, 0) != LETTER {
         return no_message();
@@ -63,7 +64,7 @@ fn items_from(line: &[u8], stamp: Stamp, from: usize) -> Message
         };
         batch = batch.add(item);
         if ends(line, e) {
-            return closed(stamp, batch);
+            return if_distinct(stamp, batch);
         }
         at = e;
         n += 1;
@@ -105,8 +106,8 @@ fn ends(line: &[u8], at: usize) -> bool
 }
 
 // "No key twice."
-fn closed(stamp: Stamp, batch: Batch) -> Message
-    ensures { λ r. ⌜ r ≡ closedMessage (stamp .0) batch ⌝ }
+fn if_distinct(stamp: Stamp, batch: Batch) -> Message
+    ensures { λ r. ⌜ r ≡ messageIfDistinct (stamp .0) batch ⌝ }
 {
     if all_distinct(batch) {
         return Message {
@@ -124,7 +125,7 @@ fn all_distinct(batch: Batch) -> bool
     let end = size(batch);
     let mut i = 0;
     while i < end {
-        if named_from(batch, i + 1, batch.items[i].key) {
+        if key_from(batch, i + 1, batch.items[i].key) {
             return false;
         }
         i += 1;
@@ -133,8 +134,8 @@ fn all_distinct(batch: Batch) -> bool
 }
 
 // Whether one of the versions from a place on is of a key.
-fn named_from(batch: Batch, from: usize, key: u8) -> bool
-    ensures { λ r. ⌜ r ≡ any (named key) (drop from (itemsOf batch)) ⌝ }
+fn key_from(batch: Batch, from: usize, key: u8) -> bool
+    ensures { λ r. ⌜ r ≡ any (isOfKey key) (drop from (itemsOf batch)) ⌝ }
 {
     let end = size(batch);
     let mut i = from;

@@ -5,8 +5,8 @@ ghost use lib.IntN.{pos};
 ghost use lib.ListN.{length};
 ghost use Rattle.decimal.specs.Text.{field};
 ghost use Rattle.decimal.specs.Write.{put, Puts};
-ghost use Rattle.message.specs.Line.{itemText, itemsText, lineOf, itemsOf};
-ghost use Rattle.message.specs.Write.{sentAs};
+ghost use Rattle.message.specs.Line.{itemText, itemsText, messageText, itemsOf};
+ghost use Rattle.message.specs.Write.{messageReply, textReply};
 use crate::LETTER;
 use crate::size;
 use decimal::NEWLINE;
@@ -22,7 +22,7 @@ use units::Refusal;
 use units::Stamp;
 
 // The length of the line, or NoRoom where the lent room is shorter.
-pub enum Sent {
+pub enum MessageAnswer {
     Bytes(usize),
     Refused(Refusal),
 }
@@ -30,22 +30,22 @@ pub enum Sent {
 // Room for the line of any batch, also of one that no commit made: 1 + 11 + 16 * 27 + 1 bytes.
 const LONGEST: usize = 445;
 
-pub fn write_message(room: &mut [u8], stamp: Stamp, batch: Batch) -> Sent
-    ensures reply { λ r. ⌜ r ≡ sentAs (now (room .entry)) (lineOf (stamp .0) (itemsOf batch)) ⌝ }
-    ensures buffer { λ _. ⌜ now (room .exit) ≡ put (now (room .entry)) 0 (lineOf (stamp .0) (itemsOf batch)) ⌝ }
+pub fn write_message(room: &mut [u8], stamp: Stamp, batch: Batch) -> MessageAnswer
+    ensures reply { λ r. ⌜ messageReply r ≡ textReply (now (room .entry)) (messageText (stamp .0) (itemsOf batch)) ⌝ }
+    ensures buffer { λ _. ⌜ now (room .exit) ≡ put (now (room .entry)) 0 (messageText (stamp .0) (itemsOf batch)) ⌝ }
 {
     let mut text = [0u8; LONGEST];
     let end = put_line(&mut text, stamp, batch);
     let Put::Next(n) = put_text(room, 0, &text[..end]) else {
-        return Sent::Refused(Refusal::NoRoom);
+        return MessageAnswer::Refused(Refusal::NoRoom);
     };
-    Sent::Bytes(n)
+    MessageAnswer::Bytes(n)
 }
 
 // The whole line, at the front of a text that is long enough for any.
 fn put_line(text: &mut [u8], stamp: Stamp, batch: Batch) -> usize
     requires { ⌜ length (now text) ≡ 445 ⌝ }
-    ensures { λ r. ⌜ (Puts (now (text .entry)) (now (text .exit)) 0 (lineOf (stamp .0) (itemsOf batch)) r) × (r ≤ 445) ⌝ }
+    ensures { λ r. ⌜ (Puts (now (text .entry)) (now (text .exit)) 0 (messageText (stamp .0) (itemsOf batch)) r) × (r ≤ 445) ⌝ }
 {
     put_byte(text, 0, LETTER);
     let at = put_field(text, 1, stamp.0 as u64);

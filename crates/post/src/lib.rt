@@ -1,10 +1,11 @@
 // The message of a commit, written from the log's columns into lent room.
 ghost use mathlib.Core.Path.{_≡_};
 ghost use Rattle.master.specs.Master.{logAt};
-ghost use Rattle.post.specs.Post.{posted, roomAfter};
+ghost use Rattle.message.specs.Write.{messageReply};
+ghost use Rattle.post.specs.Post.{posted, postedRoom};
 use desk::Master;
 use master::MadeAnswer;
-use message::Sent;
+use message::MessageAnswer;
 use units::Stamp;
 use units::limits;
 
@@ -17,14 +18,14 @@ pub fn send(
     master: Master,
     stamp: Stamp,
     room: &mut [u8],
-) -> Sent
-    ensures reply { λ r. ⌜ r ≡ posted (logAt (now (keys .entry)) (now (ordinals .entry)) (now (stamps .entry)) (now (values .entry)) (master .length)) (stamp .0) (now (room .entry)) ⌝ }
-    ensures buffer { λ _. ⌜ now (room .exit) ≡ roomAfter (logAt (now (keys .entry)) (now (ordinals .entry)) (now (stamps .entry)) (now (values .entry)) (master .length)) (stamp .0) (now (room .entry)) ⌝ }
+) -> MessageAnswer
+    ensures reply { λ r. ⌜ messageReply r ≡ posted (logAt (now (keys .entry)) (now (ordinals .entry)) (now (stamps .entry)) (now (values .entry)) (master .length)) (stamp .0) (now (room .entry)) ⌝ }
+    ensures buffer { λ _. ⌜ now (room .exit) ≡ postedRoom (logAt (now (keys .entry)) (now (ordinals .entry)) (now (stamps .entry)) (now (values .entry)) (master .length)) (stamp .0) (now (room .entry)) ⌝ }
 {
     let made = master::made(keys, ordinals, stamps, values, master, stamp);
     let answer = made.answer;
     match answer {
-        MadeAnswer::Refused(f) => Sent::Refused(f),
+        MadeAnswer::Refused(f) => MessageAnswer::Refused(f),
         MadeAnswer::Made => {
             let batch = made.batch;
             message::write_message(room, stamp, batch)

@@ -16,7 +16,7 @@ use crate::step::Step;
 use crate::step::step_of;
 use copy::Copy;
 use desk::Master;
-use message::Sent;
+use message::MessageAnswer;
 use units::Ordinal;
 use units::Stamp;
 use units::limits;
@@ -199,8 +199,8 @@ fn say_message(
         Stamp(stamp),
         front_mut(&mut text, n),
     ) {
-        Sent::Bytes(e) => put_text(out, p.written, &text, e),
-        Sent::Refused(f) => say_refused(out, p.written, f),
+        MessageAnswer::Bytes(e) => put_text(out, p.written, &text, e),
+        MessageAnswer::Refused(f) => say_refused(out, p.written, f),
     }
 }
 

@@ -29,7 +29,7 @@ returns-2 c =
     let w = c .before .before in
     let t = w .before .before .before in
     let m = t .before .before in
-    made-sends (m .before .before .args .master) _ _ _ (m .made .ensures .0) _ _ _ _ (t .enum-told .given .1) (m .made .ensures .1) (w .write-message .ensures .0) (w .write-message .ensures .1)
+    made-sends (m .before .before .args .master) _ _ _ (m .made .ensures .0) _ _ _ (w .write-message .result) (t .enum-told .given .1) (m .made .ensures .1) (w .write-message .ensures .0) (w .write-message .ensures .1)
 
 pub send-spec : {M : Type 1} → statement M
 send-spec =

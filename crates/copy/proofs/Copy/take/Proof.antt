@@ -17,10 +17,10 @@ enum-told-2 : tie.Need-enum-told-2
 enum-told-2 c = search needs
 
 returns : tie.Need-returns
-returns c = line-whole _ _ (c .before .before .before .read-message .ensures) (c .before .enum-told .given .1) (c .take-batch .ensures)
+returns c = line-whole _ _ (c .before .before .before .read-message .ensures .1) (c .before .enum-told .given .1) (c .take-batch .ensures)
 
 returns-2 : tie.Need-returns-2
-returns-2 c = line-bad _ _ (c .before .before .read-message .ensures) (c .enum-told2 .given .1)
+returns-2 c = line-bad _ _ (c .before .before .read-message .ensures .1) (c .enum-told2 .given .1)
 
 pub take-spec : {M : Type 1} → statement M
 take-spec =

@@ -8,6 +8,7 @@ use mir.Val.{SFits}
 use Rattle.lists.proofs.Length.{length-mapped}
 use Rattle.copy.proofs.Steps.{item-newer, item-older, item-outside}
 use borrow.Author.Needs.{needs}
+use borrow.Author.Tests.{ltb-true, ltb-false}
 use Rattle.copy.proofs.Copy.take_item.Statement.{statement}
 use Rattle.copy.proofs.Copy.take_item.Tie as tie
 
@@ -34,12 +35,12 @@ returns c =
     let n = c .before .before .before in
     let a = n .before .before .before .before .args in
     let v : SFits w32 (a .item .value) = search needs in
-    rw (toZ-ofZ v) (item-newer (a .t1) _ (a .item) (sym (n .newer .ensures) ∙ c .before .before .if2 .taken))
+    rw (toZ-ofZ v) (sym (item-newer (a .t1) _ (a .item) (ltb-true _ _ (sym (n .newer .ensures) ∙ c .before .before .if2 .taken))))
 
 returns-2 : tie.Need-returns-2
 returns-2 c =
     let a = c .before .before .before .before .before .args in
-    item-older (a .t1) _ (a .item) (sym (c .before .newer .ensures) ∙ c .if2 .left)
+    sym (item-older (a .t1) _ (a .item) (ltb-false _ _ (sym (c .before .newer .ensures) ∙ c .if2 .left)))
 
 returns-3 : tie.Need-returns-3
 returns-3 c =

@@ -4,7 +4,8 @@ use native.Mathlib.Omega.{arith}
 use mathlib.Core.Path.{_≡_, refl, sym, _∙_}
 use borrow.Author.Needs.{needs}
 use lib.ListN.{length, drop}
-use Rattle.message.specs.Line.{distinct, itemsOf}
+use Rattle.message.specs.Line.{itemsOf}
+use Rattle.message.specs.Read.{distinct}
 use Rattle.message.proofs.Batches.{batch-at}
 use Rattle.message.proofs.Steps.{distinct-over, distinct-twice, distinct-on}
 use Rattle.message.proofs.read.all_distinct.Statement.{statement}
@@ -23,23 +24,23 @@ size-requires c κs = search needs
 loop-holds : tie.Need-loop-holds Inv-loop μ-loop
 loop-holds c = (c .size .ensures, refl)
 
-add-named-from : tie.Need-add-named-from Inv-loop μ-loop
-add-named-from c = omega arith
+add-key-from : tie.Need-add-key-from Inv-loop μ-loop
+add-key-from c = omega arith
 
-mul-named-from : tie.Need-mul-named-from Inv-loop μ-loop
-mul-named-from c = omega arith
+mul-key-from : tie.Need-mul-key-from Inv-loop μ-loop
+mul-key-from c = omega arith
 
-element-copy-out-named-from : tie.Need-element-copy-out-named-from Inv-loop μ-loop
-element-copy-out-named-from c = omega arith
+element-copy-out-key-from : tie.Need-element-copy-out-key-from Inv-loop μ-loop
+element-copy-out-key-from c = omega arith
 
-named-from-requires : tie.Need-named-from-requires Inv-loop μ-loop
-named-from-requires c κs = search needs
+key-from-requires : tie.Need-key-from-requires Inv-loop μ-loop
+key-from-requires c κs = search needs
 
 returns : tie.Need-returns Inv-loop μ-loop
 returns c =
     let d = c .before .before .before in
     let t = d .before .before .args .t1 in
-    sym (d .loop .inv .1 ∙ distinct-twice (itemsOf t) (d .loop .i) (omega arith) (rw (batch-at t (d .loop .i) (omega arith)) (c .before .named-from .ensures)) (c .if1 .taken))
+    sym (d .loop .inv .1 ∙ distinct-twice (itemsOf t) (d .loop .i) (omega arith) (rw (batch-at t (d .loop .i) (omega arith)) (c .before .key-from .ensures)) (c .if1 .taken))
 
 add-i : tie.Need-add-i Inv-loop μ-loop
 add-i c = omega arith
@@ -51,7 +52,7 @@ loop-again : tie.Need-loop-again Inv-loop μ-loop
 loop-again c =
     let d = c .before .before .before in
     let t = d .before .before .args .t1 in
-    (d .loop .inv .0, d .loop .inv .1 ∙ distinct-on (itemsOf t) (d .loop .i) (omega arith) (rw (batch-at t (d .loop .i) (omega arith)) (c .before .named-from .ensures)) (c .if1 .left))
+    (d .loop .inv .0, d .loop .inv .1 ∙ distinct-on (itemsOf t) (d .loop .i) (omega arith) (rw (batch-at t (d .loop .i) (omega arith)) (c .before .key-from .ensures)) (c .if1 .left))
 
 returns-2 : tie.Need-returns-2 Inv-loop μ-loop
 returns-2 c =
@@ -66,10 +67,10 @@ all-distinct-spec =
     μ-loop
     size-requires
     loop-holds
-    add-named-from
-    mul-named-from
-    element-copy-out-named-from
-    named-from-requires
+    add-key-from
+    mul-key-from
+    element-copy-out-key-from
+    key-from-requires
     returns
     add-i
     loop-less

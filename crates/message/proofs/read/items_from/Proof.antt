@@ -40,13 +40,13 @@ add-requires c κs = search needs
 ends-requires : tie.Need-ends-requires Inv-loop μ-loop
 ends-requires c κs = search needs
 
-closed-requires : tie.Need-closed-requires Inv-loop μ-loop
-closed-requires c κs = search needs
+if-distinct-requires : tie.Need-if-distinct-requires Inv-loop μ-loop
+if-distinct-requires c κs = search needs
 
 returns-2 : tie.Need-returns-2 Inv-loop μ-loop
 returns-2 c =
     let d = c .before .before .before in
-    items-end _ _ _ (d .before .before .before .before .before .before .loop .inv) (d .before .before .before .before .before .loop-test .taken) (d .before .before .before .before .item-at .ensures) (d .before .before .item .given .1) (d .add .ensures) (sym (c .before .before .ends .ensures) ∙ c .before .if1 .taken) (c .closed .ensures)
+    items-end _ _ _ (d .before .before .before .before .before .before .loop .inv) (d .before .before .before .before .before .loop-test .taken) (d .before .before .before .before .item-at .ensures) (d .before .before .item .given .1) (d .add .ensures) (sym (c .before .before .ends .ensures) ∙ c .before .if1 .taken) (c .if-distinct .ensures)
 
 add-n : tie.Need-add-n Inv-loop μ-loop
 add-n c = omega arith
@@ -80,7 +80,7 @@ items-from-spec =
     returns
     add-requires
     ends-requires
-    closed-requires
+    if-distinct-requires
     returns-2
     add-n
     loop-less

@@ -1,8 +1,6 @@
 -- `write_message` meets its contract: the line as it stands in the local text is put at the front of the room.
 use Rattle.decimal.proofs.Putting.{puts-front, puts-taken, handed-whole, handed-full}
-use Rattle.message.specs.Write.{sentAs}
-use Rattle.units.specs.declared.refusal.Refusal.the-variants.{NoRoom}
-use Rattle.message.specs.declared.write.Sent.the-variants.{Bytes, Refused}
+use Rattle.message.specs.Write.{textReply, bytes, refused}
 use borrow.Author.Needs.{needs}
 use Rattle.message.proofs.write.write_message.Statement.{statement}
 use Rattle.message.proofs.write.write_message.Tie as tie
@@ -32,19 +30,19 @@ same-length : tie.Need-same-length
 same-length c = search needs
 
 returns : tie.Need-returns
-unfolding sentAs
+unfolding textReply
 returns c =
     let t = c .before .before .before .before in
-    handed-full Bytes (Refused NoRoom) _ _ (rw (puts-front (t .before .before .before .before .put-line .ensures .0)) at (t .put-text .ensures)) (c .enum-told .given .1)
+    handed-full bytes (refused 17) _ _ (rw (puts-front (t .before .before .before .before .put-line .ensures .0)) at (t .put-text .ensures)) (c .enum-told .given .1)
 
 same-length-2 : tie.Need-same-length-2
 same-length-2 c = search needs
 
 returns-2 : tie.Need-returns-2
-unfolding sentAs
+unfolding textReply
 returns-2 c =
     let t = c .before .before .before .before .before in
-    handed-whole Bytes (Refused NoRoom) _ _ (rw (puts-front (t .before .before .before .before .put-line .ensures .0)) at (t .put-text .ensures)) (c .before .n .given .1)
+    handed-whole bytes (refused 17) _ _ (rw (puts-front (t .before .before .before .before .put-line .ensures .0)) at (t .put-text .ensures)) (c .before .n .given .1)
 
 pub write-message-spec : {M : Type 1} → statement M
 write-message-spec =

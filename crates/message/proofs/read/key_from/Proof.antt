@@ -1,4 +1,4 @@
--- `named_from` meets its contract: what the versions not yet looked at answer is the whole answer.
+-- `key_from` meets its contract: what the versions not yet looked at answer is the whole answer.
 use Prim.Native.Nat.{_-_, _≤_}
 use native.Mathlib.Omega.{arith}
 use mathlib.Core.Path.{_≡_, refl, sym, _∙_}
@@ -7,14 +7,15 @@ use borrow.Author.Tests.{eq-eqb, ne-eqb}
 use lib.ListN.{length, drop}
 use Rattle.lists.specs.Lists.{any}
 use Rattle.lists.proofs.Any.{any-over, any-hit, any-miss}
-use Rattle.message.specs.Line.{named, itemsOf, noItem}
+use Rattle.message.specs.Line.{itemsOf, noItem}
+use Rattle.message.specs.Read.{isOfKey}
 use Rattle.message.proofs.Batches.{batch-at}
-use Rattle.message.proofs.read.named_from.Statement.{statement}
-use Rattle.message.proofs.read.named_from.Tie as tie
+use Rattle.message.proofs.read.key_from.Statement.{statement}
+use Rattle.message.proofs.read.key_from.Tie as tie
 
 abbrev Inv-loop : tie.InvT-loop
 Inv-loop from key batch end i₀ i =
-    ((end ≡ length (itemsOf batch)) × ((end ≤ batch .count) × (end ≤ 16))) × (any (named key) (drop from (itemsOf batch)) ≡ any (named key) (drop i (itemsOf batch)))
+    ((end ≡ length (itemsOf batch)) × ((end ≤ batch .count) × (end ≤ 16))) × (any (isOfKey key) (drop from (itemsOf batch)) ≡ any (isOfKey key) (drop i (itemsOf batch)))
 
 abbrev μ-loop : tie.MeasureT-loop
 μ-loop from key batch end i₀ i = end - i
@@ -35,7 +36,7 @@ returns : tie.Need-returns Inv-loop μ-loop
 returns c =
     let d = c .before .before in
     let t = d .before .before .args .t1 in
-    sym (d .loop .inv .1 ∙ any-hit (named _) (itemsOf t) (d .loop .i) noItem (omega arith) (rw (batch-at t (d .loop .i) (omega arith)) (eq-eqb _ _ (c .if1 .taken))))
+    sym (d .loop .inv .1 ∙ any-hit (isOfKey _) (itemsOf t) (d .loop .i) noItem (omega arith) (rw (batch-at t (d .loop .i) (omega arith)) (eq-eqb _ _ (c .if1 .taken))))
 
 add-i : tie.Need-add-i Inv-loop μ-loop
 add-i c = omega arith
@@ -47,16 +48,16 @@ loop-again : tie.Need-loop-again Inv-loop μ-loop
 loop-again c =
     let d = c .before .before in
     let t = d .before .before .args .t1 in
-    (d .loop .inv .0, d .loop .inv .1 ∙ any-miss (named _) (itemsOf t) (d .loop .i) noItem (omega arith) (rw (batch-at t (d .loop .i) (omega arith)) (ne-eqb _ _ (c .if1 .left))))
+    (d .loop .inv .0, d .loop .inv .1 ∙ any-miss (isOfKey _) (itemsOf t) (d .loop .i) noItem (omega arith) (rw (batch-at t (d .loop .i) (omega arith)) (ne-eqb _ _ (c .if1 .left))))
 
 returns-2 : tie.Need-returns-2 Inv-loop μ-loop
 returns-2 c =
     let d = c .before in
     let t = d .before .before .args .t1 in
-    sym (d .loop .inv .1 ∙ any-over (named _) (itemsOf t) (d .loop .i) (omega arith))
+    sym (d .loop .inv .1 ∙ any-over (isOfKey _) (itemsOf t) (d .loop .i) (omega arith))
 
-pub named-from-spec : {M : Type 1} → statement M
-named-from-spec =
+pub key-from-spec : {M : Type 1} → statement M
+key-from-spec =
     tie.close
     (tie.spec
     Inv-loop
