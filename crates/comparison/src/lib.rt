@@ -3,8 +3,9 @@
 ghost use Prim.Native.Nat.{_<_, _^_};
 ghost use mathlib.Core.Path.{_≡_};
 ghost use mathlib.Core.Bool.{cond};
-ghost use Rattle.columns.specs.Columns.{used, logOf};
+ghost use Rattle.memory.specs.Memory.{logOf};
 ghost use Rattle.comparison.specs.Comparison.{isAhead, isBehind, someKey, wordOf, compared, compareReply, newestOrdinal};
+use memory::WORDS;
 use units::Ordinal;
 use units::Refusal;
 use units::limits;
@@ -16,37 +17,23 @@ pub enum Compared {
 }
 
 // The copy's ordinals are `held`. 11 where some of them is above the master's.
-pub fn compare(
-    keys: &[u8; limits::LOG],
-    ordinals: &[u32; limits::LOG],
-    stamps: &[u32; limits::LOG],
-    values: &[i32; limits::LOG],
-    length: usize,
-    held: [Ordinal; limits::KEYS],
-) -> Compared
-    ensures { λ r. ⌜ compareReply r ≡ compared (logOf (now (keys .entry)) (now (ordinals .entry)) (now (stamps .entry)) (now (values .entry)) (used length)) held ⌝ }
+pub fn compare(memory: &[u32; WORDS], held: [Ordinal; limits::KEYS]) -> Compared
+    ensures { λ r. ⌜ compareReply r ≡ compared (logOf (now (memory .entry))) held ⌝ }
 {
-    if some_ahead(keys, ordinals, stamps, values, length, held) {
+    if some_ahead(memory, held) {
         return Compared::Refused(Refusal::OrdinalAhead);
     }
-    let word = behind(keys, ordinals, stamps, values, length, held);
+    let word = behind(memory, held);
     Compared::Behind(word, u64::count_ones(word), u64::trailing_zeros(word))
 }
 
-fn some_ahead(
-    keys: &[u8; limits::LOG],
-    ordinals: &[u32; limits::LOG],
-    stamps: &[u32; limits::LOG],
-    values: &[i32; limits::LOG],
-    length: usize,
-    held: [Ordinal; limits::KEYS],
-) -> bool
-    ensures { λ r. ⌜ r ≡ someKey (isAhead (logOf (now (keys .entry)) (now (ordinals .entry)) (now (stamps .entry)) (now (values .entry)) (used length)) held) 64 ⌝ }
+fn some_ahead(memory: &[u32; WORDS], held: [Ordinal; limits::KEYS]) -> bool
+    ensures { λ r. ⌜ r ≡ someKey (isAhead (logOf (now (memory .entry))) held) 64 ⌝ }
 {
-    let mut j: u8 = 0;
+    let mut j: u32 = 0;
     while j < 64 {
         let own = held[j as usize];
-        if newest_ordinal(keys, ordinals, stamps, values, length, j) < own.0 {
+        if newest_ordinal(memory, j) < own.0 {
             return true;
         }
         j += 1;
@@ -54,46 +41,29 @@ fn some_ahead(
     false
 }
 
-fn behind(
-    keys: &[u8; limits::LOG],
-    ordinals: &[u32; limits::LOG],
-    stamps: &[u32; limits::LOG],
-    values: &[i32; limits::LOG],
-    length: usize,
-    held: [Ordinal; limits::KEYS],
-) -> u64
-    ensures { λ r. ⌜ r ≡ wordOf (isBehind (logOf (now (keys .entry)) (now (ordinals .entry)) (now (stamps .entry)) (now (values .entry)) (used length)) held) 64 ⌝ }
+fn behind(memory: &[u32; WORDS], held: [Ordinal; limits::KEYS]) -> u64
+    ensures { λ r. ⌜ r ≡ wordOf (isBehind (logOf (now (memory .entry))) held) 64 ⌝ }
 {
     let mut word: u64 = 0;
-    let mut k: u8 = 0;
+    let mut k: u32 = 0;
     while k < 64 {
         let own = held[k as usize];
-        word += bit_if(
-            own.0 < newest_ordinal(keys, ordinals, stamps, values, length, k),
-            k,
-        );
+        word += bit_if(own.0 < newest_ordinal(memory, k), k);
         k += 1;
     }
     word
 }
 
-fn newest_ordinal(
-    keys: &[u8; limits::LOG],
-    ordinals: &[u32; limits::LOG],
-    stamps: &[u32; limits::LOG],
-    values: &[i32; limits::LOG],
-    length: usize,
-    key: u8,
-) -> u32
-    ensures { λ r. ⌜ r ≡ newestOrdinal (logOf (now (keys .entry)) (now (ordinals .entry)) (now (stamps .entry)) (now (values .entry)) (used length)) key ⌝ }
+fn newest_ordinal(memory: &[u32; WORDS], key: u32) -> u32
+    ensures { λ r. ⌜ r ≡ newestOrdinal (logOf (now (memory .entry))) key ⌝ }
 {
-    let v = versions::newest(keys, ordinals, stamps, values, length, key);
+    let v = versions::newest(memory, key);
     let o = v.ordinal;
     o.0
 }
 
 // The bit of a key below 64, where a test holds.
-fn bit_if(test: bool, key: u8) -> u64
+fn bit_if(test: bool, key: u32) -> u64
     requires { ⌜ key < 64 ⌝ }
     ensures { λ r. ⌜ r ≡ cond test (2 ^ key) 0 ⌝ }
 {

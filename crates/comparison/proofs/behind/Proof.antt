@@ -8,17 +8,17 @@ use lib.Dec.{ltb}
 use lib.Pow.{pow-mono}
 use denote.Ref.{now}
 use borrow.Author.Needs.{needs}
-use Rattle.columns.specs.Columns.{used, logOf}
+use Rattle.memory.specs.Memory.{logOf}
 use Rattle.comparison.specs.Comparison.{heldOrdinal, isBehind, wordOf}
 use Rattle.comparison.proofs.Words.{word-lt, word-more}
 use Rattle.comparison.proofs.behind.Statement.{statement}
 use Rattle.comparison.proofs.behind.Tie as tie
 
 abbrev Inv-loop : tie.InvT-loop
-Inv-loop keys ordinals stamps values length held word₀ k₀ word k = (k ≤ 64) × (word ≡ wordOf (isBehind (logOf keys ordinals stamps values (used length)) held) k)
+Inv-loop memory held word₀ k₀ word k = (k ≤ 64) × (word ≡ wordOf (isBehind (logOf memory) held) k)
 
 abbrev μ-loop : tie.MeasureT-loop
-μ-loop keys ordinals stamps values length held word₀ k₀ word k = 64 - k
+μ-loop memory held word₀ k₀ word k = 64 - k
 
 loop-holds : tie.Need-loop-holds Inv-loop μ-loop
 unfolding wordOf
@@ -43,7 +43,7 @@ bit-if-requires c κs = omega (arith, c .before .before .before .loop-test .take
 abbrev test : tie.After-bit-if Inv-loop μ-loop → ℕ → Bool
 test c =
     let a = c .before .before .before .before .before .before .args in
-    isBehind (logOf (now (a .keys)) (now (a .ordinals)) (now (a .stamps)) (now (a .values)) (used (a .length))) (a .t6)
+    isBehind (logOf (now (a .memory))) (a .t2)
 
 abbrev place : tie.After-bit-if Inv-loop μ-loop → ℕ
 place c = c .before .before .before .before .before .loop .k
@@ -51,7 +51,7 @@ place c = c .before .before .before .before .before .loop .k
 sum : (c : tie.After-bit-if Inv-loop μ-loop) → c .before .before .before .before .before .loop .word + c .bit-if .result ≡ wordOf (test c) (place c + 1)
 sum c =
     let l = c .before .before .before .before .before .loop in
-    let o = heldOrdinal (c .before .before .before .before .before .before .args .t6) (l .k) in
+    let o = heldOrdinal (c .before .before .before .before .before .before .args .t2) (l .k) in
     word-more (test c) (place c) (l .word) (c .bit-if .result) (l .inv .1)
     (c .bit-if .ensures ∙ ap (λ (x : ℕ). cond (ltb o x) (2 ^ l .k) 0) (c .before .before .newest-ordinal .ensures))
 

@@ -6,17 +6,17 @@ use mathlib.Core.Bool.{false}
 use denote.Ref.{now}
 use borrow.Author.Needs.{needs}
 use borrow.Author.Tests.{lt-ltb, le-ltb}
-use Rattle.columns.specs.Columns.{used, logOf}
+use Rattle.memory.specs.Memory.{logOf}
 use Rattle.comparison.specs.Comparison.{isAhead, someKey}
 use Rattle.comparison.proofs.Words.{some-none, some-hit}
 use Rattle.comparison.proofs.some_ahead.Statement.{statement}
 use Rattle.comparison.proofs.some_ahead.Tie as tie
 
 abbrev Inv-loop : tie.InvT-loop
-Inv-loop keys ordinals stamps values length held j₀ j = (j ≤ 64) × (someKey (isAhead (logOf keys ordinals stamps values (used length)) held) j ≡ false)
+Inv-loop memory held j₀ j = (j ≤ 64) × (someKey (isAhead (logOf memory) held) j ≡ false)
 
 abbrev μ-loop : tie.MeasureT-loop
-μ-loop keys ordinals stamps values length held j₀ j = 64 - j
+μ-loop memory held j₀ j = 64 - j
 
 loop-holds : tie.Need-loop-holds Inv-loop μ-loop
 unfolding someKey
@@ -39,7 +39,7 @@ returns c =
     let l = c .before .before .before .before .before in
     let a = l .before .args in
     sym
-    (some-hit (isAhead (logOf (now (a .keys)) (now (a .ordinals)) (now (a .stamps)) (now (a .values)) (used (a .length))) (a .t6)) (l .loop .j) 64 (omega (arith, c .before .before .before .before .loop-test .taken))
+    (some-hit (isAhead (logOf (now (a .memory))) (a .t2)) (l .loop .j) 64 (omega (arith, c .before .before .before .before .loop-test .taken))
     (lt-ltb _ _ (rw (c .before .before .newest-ordinal .ensures) at (c .if1 .taken))))
 
 add-j : tie.Need-add-j Inv-loop μ-loop
@@ -53,7 +53,7 @@ loop-again c =
     let l = c .before .before .before .before .before in
     let a = l .before .args in (
       omega (arith, c .before .before .before .before .loop-test .taken),
-      some-none (isAhead (logOf (now (a .keys)) (now (a .ordinals)) (now (a .stamps)) (now (a .values)) (used (a .length))) (a .t6)) (l .loop .j) (l .loop .inv .1)
+      some-none (isAhead (logOf (now (a .memory))) (a .t2)) (l .loop .j) (l .loop .inv .1)
           (le-ltb _ _ (rw (c .before .before .newest-ordinal .ensures) at (c .if1 .left))),
     )
 
