@@ -2,6 +2,7 @@
 -- the log.
 use Prim.Native.Nat.{ℕ, suc, _≤_, _<_}
 use native.Mathlib.Decide.{decLt}
+use native.Mathlib.Nat.{mod-eq-of-lt}
 use native.Mathlib.Omega.{arith}
 use mathlib.Core.Path.{_≡_, refl, sym, _∙_, ap, subst}
 use mathlib.Core.Logic.{_≢_, _↔_}
@@ -33,7 +34,7 @@ use Rattle.message.proofs.Exactly.{line-back}
 use Rattle.copy.specs.Copy.{done, takeReading, takeLine}
 use Rattle.copy.specs.Arrivals.{Arrival, arrival, carried, arrivals}
 use Rattle.copy.specs.declared.Copy.{Copy}
-use Rattle.delivery.specs.Sent.{messageAt, MessageOf, Sent, Answered, Carries}
+use Rattle.delivery.specs.Sent.{plainItem, messageAt, MessageOf, Sent, Answered, Carries}
 use Rattle.delivery.specs.Values.{Ranged}
 use Rattle.delivery.specs.Held.{arrivalOf, Committed}
 
@@ -76,15 +77,25 @@ carried-whole : {r : Reading} {stamp : ℕ} {items : List Item} → r ≡ whole 
 unfolding carried
 carried-whole e = rw e
 
-keys-items : (es : List Entry) → map (λ (i : Item). i .key) (map itemOf es) ≡ map (λ (e : Entry). e .key) es
+-- a key up to 63 is its own remainder: the item that the code makes of such a version is the version as it is
+plain-item : (e : Entry) → e .key ≤ 63 → itemOf e ≡ plainItem e
+plain-item e h = ap (λ (k : ℕ). record { key = k; ordinal = record { 0 = e .ordinal }; value = e .value }) (mod-eq-of-lt (omega arith))
+
+plain-items : (es : List Entry) → Every (λ (k : ℕ). k ≤ 63) (map (λ (e : Entry). e .key) es) → map itemOf es ≡ map plainItem es
+plain-items [] none = refl
+plain-items (e ∷ es) (also h hs) = rw (plain-item e h, plain-items es hs)
+
+keys-items : (es : List Entry) → map (λ (i : Item). i .key) (map plainItem es) ≡ map (λ (e : Entry). e .key) es
 keys-items [] = refl
 keys-items (e ∷ es) = ap (λ (ks : List ℕ). e .key ∷ ks) (keys-items es)
 
 module _ {opening : ℕ} (s : State) (g : Good opening s) where
-  -- no commit made more than 16 versions
-  pub message-all : (t : ℕ) → messageAt (s .log) t ≡ messageText t (map itemOf (madeAt (s .log) t))
+  -- no commit made more than 16 versions, and no key is above 63
+  pub message-all : (t : ℕ) → messageAt (s .log) t ≡ messageText t (map plainItem (madeAt (s .log) t))
   unfolding messageAt
-  message-all t = ap (λ (es : List Entry). messageText t (map itemOf es)) (take-all 16 (madeAt (s .log) t) (made-few (g .history) t))
+  message-all t =
+      ap (λ (es : List Entry). messageText t (map itemOf es)) (take-all 16 (madeAt (s .log) t) (made-few (g .history) t))
+      ∙ ap (messageText t) (plain-items (madeAt (s .log) t) (made-keys (g .history) t))
 
   pub answers-message : (t : ℕ) → madeAt (s .log) t ≢ [] → step s (Message t) .reply ≡ made (madeAt (s .log) t)
   answers-message t h = ap (λ (d : Step). d .reply) (message-whole s g t h)
@@ -101,10 +112,10 @@ module _ {opening : ℕ} (s : State) (g : Good opening s) where
           let some : madeAt (s .log) (a .stamp) ≢ [] = λ e. other (sym (message-none s (a .stamp) e) ∙ a .reply) tt in
           let same : made (madeAt (s .log) (a .stamp)) ≡ made (a .versions) = sym (answers-message (a .stamp) some) ∙ a .reply in
           let all : madeAt (s .log) (a .stamp) ≡ a .versions = cc in
-          record { stamp = a .stamp; wrote = some; text = a .text ∙ ap (λ (es : List Entry). messageText (a .stamp) (map itemOf es)) (sym all) ∙ sym (message-all (a .stamp)) }
+          record { stamp = a .stamp; wrote = some; text = a .text ∙ ap (λ (es : List Entry). messageText (a .stamp) (map plainItem es)) (sym all) ∙ sym (message-all (a .stamp)) }
 
   module _ (r : Ranged s) where
-    in-ranges : (t : ℕ) (e : Entry) → In e (madeAt (s .log) t) → InRanges (itemOf e)
+    in-ranges : (t : ℕ) (e : Entry) → In e (madeAt (s .log) t) → InRanges (plainItem e)
     in-ranges t e i =
         let there : In e (s .log) = made-in (s .log) t e i .0 in
         let o : (1 ≤ e .ordinal) × (e .ordinal ≤ length (s .log)) = ordinal-range (chain (g .history)) there in
@@ -112,10 +123,10 @@ module _ {opening : ℕ} (s : State) (g : Good opening s) where
         record { key = every-in (made-keys (g .history) t) (in-map (λ (e : Entry). e .key) i); first = o .0; last = omega (arith, o .1); value = every-in (r .log) there }
 
     -- every message is of the form of document 01
-    pub in-form : (t : ℕ) → madeAt (s .log) t ≢ [] → IsMessage t (map itemOf (madeAt (s .log) t))
+    pub in-form : (t : ℕ) → madeAt (s .log) t ≢ [] → IsMessage t (map plainItem (madeAt (s .log) t))
     in-form t h = go (madeAt (s .log) t) refl
       where
-        go : (es : List Entry) → madeAt (s .log) t ≡ es → IsMessage t (map itemOf (madeAt (s .log) t))
+        go : (es : List Entry) → madeAt (s .log) t ≡ es → IsMessage t (map plainItem (madeAt (s .log) t))
         go [] q = absurd (h q)
         go (e ∷ es) q =
             let i : In e (madeAt (s .log) t) = rw q here in
@@ -123,19 +134,19 @@ module _ {opening : ℕ} (s : State) (g : Good opening s) where
             let c : (opening < e .stamp) × (e .stamp ≤ s .clock) = every-in (chain-stamps (chain (g .history))) (m .0) in
             let few : length (madeAt (s .log) t) ≤ 16 = made-few (g .history) t in
             let some : length (madeAt (s .log) t) ≡ suc (length es) = ap length q in
-            let size : length (map itemOf (madeAt (s .log) t)) ≡ length (madeAt (s .log) t) = length-map (madeAt (s .log) t) itemOf in
+            let size : length (map plainItem (madeAt (s .log) t)) ≡ length (madeAt (s .log) t) = length-map (madeAt (s .log) t) plainItem in
             record {
               early = omega (arith, c .0, m .1);
               late = omega (arith, c .1, m .1, g .ticks);
               some = omega arith;
               few = omega arith;
-              ranges = every-image InRanges itemOf (in-every (λ (f : Entry). InRanges (itemOf f)) (madeAt (s .log) t) (in-ranges t));
+              ranges = every-image InRanges plainItem (in-every (λ (f : Entry). InRanges (plainItem f)) (madeAt (s .log) t) (in-ranges t));
               apart = subst Distinct (sym (keys-items (madeAt (s .log) t))) (made-once (g .history) t);
             }
 
     module _ {line : List ℕ} (m : MessageOf (s .log) line) where
-      line-reads : readLine line ≡ whole (m .stamp) (map itemOf (madeAt (s .log) (m .stamp)))
-      line-reads = ap readLine (m .text ∙ message-all (m .stamp)) ∙ line-back (m .stamp) (map itemOf (madeAt (s .log) (m .stamp))) (in-form (m .stamp) (m .wrote))
+      line-reads : readLine line ≡ whole (m .stamp) (map plainItem (madeAt (s .log) (m .stamp)))
+      line-reads = ap readLine (m .text ∙ message-all (m .stamp)) ∙ line-back (m .stamp) (map plainItem (madeAt (s .log) (m .stamp))) (in-form (m .stamp) (m .wrote))
 
       line-taken : (c : Copy) → takeLine c line .reply ≡ done
       unfolding takeLine takeReading
@@ -153,7 +164,7 @@ module _ {opening : ℕ} (s : State) (g : Good opening s) where
 
       -- a version of a message's stamp is carried by it
       pub version-carried : {e : Entry} → In e (madeAt (s .log) (m .stamp)) → In (arrivalOf e) (carried (readLine line))
-      version-carried {e} i = rw (carried-whole line-reads, made-in (s .log) (m .stamp) e i .1) (in-map (arrival (m .stamp)) (in-map itemOf i))
+      version-carried {e} i = rw (carried-whole line-reads, made-in (s .log) (m .stamp) e i .1) (in-map (arrival (m .stamp)) (in-map plainItem i))
 
 -- ---- what it carries
 
@@ -162,8 +173,8 @@ module _ {log : List Entry} where
   line-committed : {line : List ℕ} → Carries log line → Every (Committed log) (carried (readLine line))
   line-committed m =
       rw (carried-whole (m .reads))
-      (every-image (Committed log) (arrival (m .stamp)) (every-image (λ (i : Item). Committed log (arrival (m .stamp) i)) itemOf
-      (every-map (λ (e : Entry) h. record { entry = e; there = h .0; same = ap (λ (t : ℕ). arrival t (itemOf e)) (sym (h .1)) }) (m .logged))))
+      (every-image (Committed log) (arrival (m .stamp)) (every-image (λ (i : Item). Committed log (arrival (m .stamp) i)) plainItem
+      (every-map (λ (e : Entry) h. record { entry = e; there = h .0; same = ap (λ (t : ℕ). arrival t (plainItem e)) (sym (h .1)) }) (m .logged))))
 
   pub lines-committed : {lines : List (List ℕ)} → Every (Carries log) lines → Every (Committed log) (arrivals lines)
   unfolding arrivals

@@ -9,12 +9,12 @@ use Rattle.lists.specs.Members.{In}
 use Rattle.units.specs.Version.{startVersion}
 use Rattle.units.specs.declared.Version.{Version}
 use Rattle.model.specs.Log.{Entry, versionOf}
-use Rattle.versions.specs.Batch.{itemOf}
 use Rattle.copy.specs.Arrivals.{Arrival, arrival}
+use Rattle.delivery.specs.Sent.{plainItem}
 
 -- a version of the log as a message carries it
 abbrev pub arrivalOf : Entry → Arrival
-arrivalOf e = arrival (e .stamp) (itemOf e)
+arrivalOf e = arrival (e .stamp) (plainItem e)
 
 -- what arrived is a version of the log, with its key, ordinal, stamp and value
 pub record Committed (log : List Entry) (x : Arrival) : Type 0 where

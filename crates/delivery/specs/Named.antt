@@ -12,13 +12,12 @@ use Rattle.model.specs.State.{State, opened}
 use Rattle.model.specs.Call.{Call, Message, Newest, Reply, committed, made, madeBy}
 use Rattle.model.specs.Step.{step}
 use Rattle.model.specs.Session.{reached}
-use Rattle.versions.specs.Batch.{itemOf}
 use Rattle.message.specs.Line.{messageText}
 use Rattle.comparison.specs.Comparison.{CompareReply, behind}
 use Rattle.comparison.specs.Named.{Named, Tells}
 use Rattle.copy.specs.Copy.{held}
 use Rattle.copy.specs.declared.Copy.{Copy}
-use Rattle.delivery.specs.Sent.{messageAt, Sent}
+use Rattle.delivery.specs.Sent.{plainItem, messageAt, Sent}
 
 -- the copy's ordinal of the key is below the master's
 abbrev pub Lacks : List Entry → Copy → ℕ → Type 0
@@ -43,7 +42,7 @@ pub record Given (s : State) (k : ℕ) (line : List ℕ) : Type 0 where
   pub there : In entry versions
   pub key : entry .key ≡ k
   pub same : newest (s .log) k ≡ versionOf entry
-  pub text : line ≡ messageText stamp (map itemOf versions)
+  pub text : line ≡ messageText stamp (map plainItem versions)
 
 -- what may come after the comparison, in a session of these calls: the message of a named key's newest version, or any other that this
 -- master sent until then, be it old or come before
