@@ -9,9 +9,9 @@ mod step;
 mod table;
 
 use copy::Copy;
-use desk::Master;
 use libc::STDIN_FILENO;
 use libc::STDOUT_FILENO;
+use memory::WORDS;
 use say::put_word;
 use table::REPLY;
 use table::Table;
@@ -19,7 +19,6 @@ use table::front;
 use table::play;
 use table::said;
 use units::Stamp;
-use units::limits;
 
 // The longest line that can be a step, with its newline.
 const LINE: usize = 401;
@@ -62,22 +61,13 @@ fn fill(input: &[u8], from: usize, line: &mut [u8], read: usize) -> Filled
 }
 
 // A line with n bytes before its newline. One that is too long is no step.
-fn play_line(
-    line: &[u8],
-    keys: &mut [u8; limits::LOG],
-    ordinals: &mut [u32; limits::LOG],
-    stamps: &mut [u32; limits::LOG],
-    values: &mut [i32; limits::LOG],
-    out: &mut [u8],
-    p: Table,
-    n: usize,
-) -> Table {
+fn play_line(line: &[u8], memory: &mut [u32; WORDS], out: &mut [u8], p: Table, n: usize) -> Table {
     let mut q = p;
     let written = roomy(out, p.written);
     q.written = written;
     q.read = 0;
     if n < LINE {
-        return play(front(line, n + 1), keys, ordinals, stamps, values, out, q);
+        return play(front(line, n + 1), memory, out, q);
     }
     let at = put_word(out, written, b"unknown\n");
     said(q, at)
@@ -119,10 +109,7 @@ fn flush(out: &[u8], written: usize) {
 fn feed_all(
     input: &[u8],
     line: &mut [u8],
-    keys: &mut [u8; limits::LOG],
-    ordinals: &mut [u32; limits::LOG],
-    stamps: &mut [u32; limits::LOG],
-    values: &mut [i32; limits::LOG],
+    memory: &mut [u32; WORDS],
     out: &mut [u8],
     p: Table,
 ) -> Table {
@@ -132,7 +119,7 @@ fn feed_all(
         let f = fill(input, i, line, q.read);
         i = f.at;
         if f.ended {
-            q = play_line(line, keys, ordinals, stamps, values, out, q, f.read);
+            q = play_line(line, memory, out, q, f.read);
         } else {
             q = counted(q, f.read);
         }
@@ -146,15 +133,7 @@ struct Turn {
     play: Table,
 }
 
-fn one_turn(
-    line: &mut [u8],
-    keys: &mut [u8; limits::LOG],
-    ordinals: &mut [u32; limits::LOG],
-    stamps: &mut [u32; limits::LOG],
-    values: &mut [i32; limits::LOG],
-    out: &mut [u8],
-    p: Table,
-) -> Turn {
+fn one_turn(line: &mut [u8], memory: &mut [u32; WORDS], out: &mut [u8], p: Table) -> Turn {
     let mut input = [0u8; INPUT];
     let got = libc::read(STDIN_FILENO, &mut input);
     let n = io::count(got, &input);
@@ -164,7 +143,7 @@ fn one_turn(
             play: p,
         };
     }
-    let q = feed_all(&input[..n], line, keys, ordinals, stamps, values, out, p);
+    let q = feed_all(&input[..n], line, memory, out, p);
     Turn {
         more: true,
         play: q,
@@ -173,14 +152,11 @@ fn one_turn(
 
 // A proved loop has to end, and nothing says that an input does: it counts its turns down from a number that no run uses up.
 fn main() {
-    let mut keys = [0u8; limits::LOG];
-    let mut ordinals = [0u32; limits::LOG];
-    let mut stamps = [0u32; limits::LOG];
-    let mut values = [0i32; limits::LOG];
+    let mut memory = [0u32; WORDS];
+    desk::open(&mut memory, Stamp(0));
     let mut line = [0u8; LINE];
     let mut out = [0u8; OUTPUT];
     let mut p = Table {
-        master: Master::open(Stamp(0)),
         copy: Copy::fresh(),
         written: 0,
         read: 0,
@@ -192,15 +168,7 @@ fn main() {
             more = false;
         } else {
             turns -= 1;
-            let t = one_turn(
-                &mut line,
-                &mut keys,
-                &mut ordinals,
-                &mut stamps,
-                &mut values,
-                &mut out,
-                p,
-            );
+            let t = one_turn(&mut line, &mut memory, &mut out, p);
             p = t.play;
             more = t.more;
         }

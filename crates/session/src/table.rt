@@ -1,4 +1,4 @@
-// The table at which a session is played: the master, the copy, and what is written and read so far; and what a step does to it.
+// The table at which a session is played: the copy, and what is written and read so far, beside the master's memory; and what a step does.
 ghost use Prim.Native.Nat.{_≤_};
 use crate::say::put_word;
 use crate::say::say_commit;
@@ -15,18 +15,16 @@ use crate::say::say_taken;
 use crate::step::Step;
 use crate::step::step_of;
 use copy::Copy;
-use desk::Master;
+use memory::WORDS;
 use message::MessageAnswer;
 use units::Ordinal;
 use units::Stamp;
-use units::limits;
 
 // No reply is longer than a message line.
 pub(crate) const REPLY: usize = 512;
 
-// The master, the copy, how much of the output is written, and how much of the next line is read.
+// The copy, how much of the output is written, and how much of the next line is read.
 pub(crate) struct Table {
-    pub(crate) master: Master,
     pub(crate) copy: Copy,
     pub(crate) written: usize,
     pub(crate) read: usize,
@@ -38,13 +36,6 @@ pub(crate) fn said(p: Table, at: usize) -> Table {
     q
 }
 
-fn moved(p: Table, master: Master, at: usize) -> Table {
-    let mut q = p;
-    q.master = master;
-    q.written = at;
-    q
-}
-
 fn with_copy(p: Table, copy: Copy, at: usize) -> Table {
     let mut q = p;
     q.copy = copy;
@@ -52,119 +43,91 @@ fn with_copy(p: Table, copy: Copy, at: usize) -> Table {
     q
 }
 
-pub(crate) fn play(
-    line: &[u8],
-    keys: &mut [u8; limits::LOG],
-    ordinals: &mut [u32; limits::LOG],
-    stamps: &mut [u32; limits::LOG],
-    values: &mut [i32; limits::LOG],
-    out: &mut [u8],
-    p: Table,
-) -> Table {
+// A step at the copy, or else one at the master.
+pub(crate) fn play(line: &[u8], memory: &mut [u32; WORDS], out: &mut [u8], p: Table) -> Table {
     let step = step_of(line);
-    let m = p.master;
     match step {
-        Step::Read(t, k) => {
-            let r = master::read(keys, ordinals, stamps, values, m, Stamp(t), k);
-            let answer = r.answer;
-            let next = r.master;
-            let at = say_looked(out, p.written, b"read ", answer);
-            moved(p, next, at)
-        }
-        Step::Note(t, k, o) => {
-            let r = master::note(keys, ordinals, stamps, values, m, Stamp(t), k, Ordinal(o));
-            let answer = r.answer;
-            let next = r.master;
-            let at = say_looked(out, p.written, b"note ", answer);
-            moved(p, next, at)
-        }
-        Step::Distance(t, i) => {
-            let d = master::distance(keys, ordinals, stamps, values, m, Stamp(t), i);
-            let at = say_distance(out, p.written, d);
-            said(p, at)
-        }
-        Step::Commit(t) => {
-            let r = master::commit(keys, ordinals, stamps, values, m, Stamp(t));
-            let answer = r.answer;
-            let next = r.master;
-            let at = say_commit(out, p.written, answer);
-            moved(p, next, at)
-        }
-        Step::Message(s, room) => {
-            let at = say_message(keys, ordinals, stamps, values, out, p, s, room);
-            said(p, at)
-        }
-        Step::Newest(k) => {
-            let n = master::newest(keys, ordinals, stamps, values, m, k);
-            let at = say_newest(out, p.written, n);
-            said(p, at)
-        }
-        Step::Compare => {
-            let c = p.copy;
-            let r = comparison::compare(keys, ordinals, stamps, values, m.length, c.ordinals());
-            let at = say_compared(out, p.written, r);
-            said(p, at)
-        }
-        _ => play_other(step, line, out, p),
-    }
-}
-
-// The steps that look at no version of the master.
-fn play_other(step: Step, line: &[u8], out: &mut [u8], p: Table) -> Table {
-    let m = p.master;
-    let c = p.copy;
-    match step {
-        Step::Start => {
-            let r = m.start();
-            let answer = r.answer;
-            let next = r.master;
-            let at = say_start(out, p.written, answer);
-            moved(p, next, at)
-        }
-        Step::Write(t, k, v) => {
-            let r = m.write(Stamp(t), k, v);
-            let answer = r.answer;
-            let next = r.master;
-            let at = say_done(out, p.written, b"write\n", answer);
-            moved(p, next, at)
-        }
-        Step::Tune(t, k1, k2, k3) => {
-            let r = m.tune(Stamp(t), k1, k2, k3);
-            let answer = r.answer;
-            let next = r.master;
-            let at = say_done(out, p.written, b"tune\n", answer);
-            moved(p, next, at)
-        }
-        Step::Abort(t) => {
-            let r = m.abort(Stamp(t));
-            let answer = r.answer;
-            let next = r.master;
-            let at = say_done(out, p.written, b"abort\n", answer);
-            moved(p, next, at)
-        }
-        Step::Open(n) => {
-            let at = say_number(out, p.written, b"open ", n as u64);
-            moved(p, Master::open(Stamp(n)), at)
-        }
         Step::Copy => {
             let at = put_word(out, p.written, b"copy\n");
             with_copy(p, Copy::fresh(), at)
         }
         Step::Look(k) => {
+            let c = p.copy;
             let at = say_held(out, p.written, c.read(k));
             said(p, at)
         }
         Step::Take => {
+            let c = p.copy;
             let r = take_rest(line, c);
             let answer = r.answer;
             let next = r.copy;
             let at = say_taken(out, p.written, answer);
             with_copy(p, next, at)
         }
-        _ => {
-            let at = put_word(out, p.written, b"unknown\n");
+        Step::Compare => {
+            let c = p.copy;
+            let at = say_compared(out, p.written, comparison::compare(memory, c.ordinals()));
             said(p, at)
         }
+        _ => {
+            let at = play_master(step, memory, out, p.written);
+            said(p, at)
+        }
+    }
+}
+
+// The steps that look at versions of the master.
+fn play_master(step: Step, memory: &mut [u32; WORDS], out: &mut [u8], at: usize) -> usize {
+    match step {
+        Step::Read(t, k) => {
+            let r = master::read(memory, Stamp(t), k);
+            say_looked(out, at, b"read ", r)
+        }
+        Step::Note(t, k, o) => {
+            let r = master::note(memory, Stamp(t), k, Ordinal(o));
+            say_looked(out, at, b"note ", r)
+        }
+        Step::Distance(t, i) => {
+            let d = master::distance(memory, Stamp(t), i);
+            say_distance(out, at, d)
+        }
+        Step::Commit(t) => {
+            let r = master::commit(memory, Stamp(t));
+            say_commit(out, at, r)
+        }
+        Step::Message(s, room) => say_message(memory, out, at, Stamp(s), room),
+        Step::Newest(k) => {
+            let n = master::newest(memory, k);
+            say_newest(out, at, n)
+        }
+        _ => play_desk(step, memory, out, at),
+    }
+}
+
+// The steps that look at no version.
+fn play_desk(step: Step, memory: &mut [u32; WORDS], out: &mut [u8], at: usize) -> usize {
+    match step {
+        Step::Start => {
+            let r = desk::start(memory);
+            say_start(out, at, r)
+        }
+        Step::Write(t, k, v) => {
+            let r = desk::write(memory, Stamp(t), k, v);
+            say_done(out, at, b"write\n", r)
+        }
+        Step::Tune(t, k1, k2, k3) => {
+            let r = desk::tune(memory, Stamp(t), k1, k2, k3);
+            say_done(out, at, b"tune\n", r)
+        }
+        Step::Abort(t) => {
+            let r = desk::abort(memory, Stamp(t));
+            say_done(out, at, b"abort\n", r)
+        }
+        Step::Open(n) => {
+            desk::open(memory, Stamp(n));
+            say_number(out, at, b"open ", n as u64)
+        }
+        _ => put_word(out, at, b"unknown\n"),
     }
 }
 
@@ -177,30 +140,12 @@ fn take_rest(line: &[u8], c: Copy) -> copy::Taken {
 }
 
 // The message line itself, as far as the lent room goes.
-fn say_message(
-    keys: &[u8; limits::LOG],
-    ordinals: &[u32; limits::LOG],
-    stamps: &[u32; limits::LOG],
-    values: &[i32; limits::LOG],
-    out: &mut [u8],
-    p: Table,
-    stamp: u32,
-    room: u32,
-) -> usize {
+fn say_message(memory: &[u32; WORDS], out: &mut [u8], at: usize, stamp: Stamp, room: u32) -> usize {
     let mut text = [0u8; REPLY];
     let n = lent(room);
-    let m = p.master;
-    match post::send(
-        keys,
-        ordinals,
-        stamps,
-        values,
-        m,
-        Stamp(stamp),
-        front_mut(&mut text, n),
-    ) {
-        MessageAnswer::Bytes(e) => put_text(out, p.written, &text, e),
-        MessageAnswer::Refused(f) => say_refused(out, p.written, f),
+    match post::send(memory, stamp, front_mut(&mut text, n)) {
+        MessageAnswer::Bytes(e) => put_text(out, at, &text, e),
+        MessageAnswer::Refused(f) => say_refused(out, at, f),
     }
 }
 

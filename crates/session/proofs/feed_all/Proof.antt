@@ -8,11 +8,11 @@ use Rattle.session.proofs.feed_all.Statement.{statement}
 use Rattle.session.proofs.feed_all.Tie as tie
 
 abbrev Inv-loop : tie.InvT-loop
-Inv-loop input line₀ keys₀ ordinals₀ stamps₀ values₀ out₀ q₀ i₀ line keys ordinals stamps values out q i =
+Inv-loop input line₀ memory₀ out₀ q₀ i₀ line memory out q i =
     (i ≤ length input) × ((length line ≡ length line₀) × (length out ≡ length out₀))
 
 abbrev μ-loop : tie.MeasureT-loop
-μ-loop input line₀ keys₀ ordinals₀ stamps₀ values₀ out₀ q₀ i₀ line keys ordinals stamps values out q i =
+μ-loop input line₀ memory₀ out₀ q₀ i₀ line memory out q i =
     length input - i
 
 loop-holds : tie.Need-loop-holds Inv-loop μ-loop
@@ -25,10 +25,10 @@ play-line-requires : tie.Need-play-line-requires Inv-loop μ-loop
 play-line-requires c κs = search needs
 
 loop-less : tie.Need-loop-less Inv-loop μ-loop
-loop-less c = omega (arith, c .before .before .before .before .before .before .before .before .before .before .before .before .fill .ensures (c .before .before .before .before .before .before .before .before .before .before .before .before .before .before .loop-test .taken))
+loop-less c = omega (arith, c .before .before .before .before .before .before .before .before .before .fill .ensures (c .before .before .before .before .before .before .before .before .before .before .before .loop-test .taken))
 
 loop-again : tie.Need-loop-again Inv-loop μ-loop
-loop-again c = (omega (arith, c .before .before .before .before .before .before .before .before .before .before .before .before .fill .ensures (c .before .before .before .before .before .before .before .before .before .before .before .before .before .before .loop-test .taken)), search needs)
+loop-again c = (omega (arith, c .before .before .before .before .before .before .before .before .before .fill .ensures (c .before .before .before .before .before .before .before .before .before .before .before .loop-test .taken)), search needs)
 
 counted-requires : tie.Need-counted-requires Inv-loop μ-loop
 counted-requires c κs = search needs

@@ -9,11 +9,11 @@ use Rattle.session.proofs.main.Statement.{statement}
 use Rattle.session.proofs.main.Tie as tie
 
 abbrev Inv-loop : tie.InvT-loop
-Inv-loop keys₀ ordinals₀ stamps₀ values₀ line₀ out₀ p₀ turns₀ more₀ keys ordinals stamps values line out p turns more =
+Inv-loop memory₀ line₀ out₀ p₀ turns₀ more₀ memory line out p turns more =
     (length line ≡ 401) × (length out ≡ 8192)
 
 abbrev μ-loop : tie.MeasureT-loop
-μ-loop keys₀ ordinals₀ stamps₀ values₀ line₀ out₀ p₀ turns₀ more₀ keys ordinals stamps values line out p turns more =
+μ-loop memory₀ line₀ out₀ p₀ turns₀ more₀ memory line out p turns more =
     turns + cond more 1 0
 
 less : (t : ℕ) (m n : Bool) → m ≡ true → (t ≡ 0 → ⊥) → t - 1 + cond n 1 0 < t + cond m 1 0
@@ -48,7 +48,7 @@ one-turn-requires : tie.Need-one-turn-requires Inv-loop μ-loop
 one-turn-requires c κs = search needs
 
 loop-less-2 : tie.Need-loop-less-2 Inv-loop μ-loop
-loop-less-2 c = less _ _ (c .before .before .before .one-turn .result .more) (c .before .before .before .before .before .before .before .before .before .before .before .loop-test .taken) (c .before .before .before .before .before .before .before .before .before .before .if1 .left)
+loop-less-2 c = less _ _ (c .before .before .before .one-turn .result .more) (c .before .before .before .before .before .before .before .before .loop-test .taken) (c .before .before .before .before .before .before .before .if1 .left)
 
 loop-again-2 : tie.Need-loop-again-2 Inv-loop μ-loop
 loop-again-2 c = search needs
