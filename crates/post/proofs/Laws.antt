@@ -14,10 +14,9 @@ use Rattle.units.proofs.Numbers.{number-pos}
 use Rattle.model.specs.Log.{Entry, madeAt}
 use Rattle.model.specs.Call as call
 use Rattle.model.specs.Call.{Message, Reply, made}
-use Rattle.model.specs.Step.{Step, order, checksOf, finalOf, step}
+use Rattle.model.specs.State.{State}
+use Rattle.model.specs.Step.{answers, order, checksOf, finalOf, step}
 use Rattle.model.proofs.Replies.{told}
-use Rattle.desk.specs.declared.Master.{Master}
-use Rattle.desk.specs.Desk.{stateOf, stepped}
 use Rattle.master.specs.Master.{madeReply}
 use Rattle.master.specs.declared.MadeAnswer.{MadeAnswer}
 use Rattle.versions.specs.Batch.{batchOf}
@@ -34,12 +33,15 @@ use Rattle.post.proofs.Order.{none-made, some-made, none-posts, some-po
 abbrev number : Reply → ℕ
 number r = told r .number
 
-module _ (m : Master) (log : List Entry) (st : ℕ) (a : MadeAnswer) (e : stepped (madeReply a (madeAt log st)) m log ≡ step (stateOf m log) (Message st)) where
+module _ (s : State) (st : ℕ) (a : MadeAnswer) (e : madeReply a (madeAt (s .log) st) ≡ step s (Message st) .reply) where
+  abbrev log : List Entry
+  log = s .log
+
   said : number (madeReply a (madeAt log st)) ≡ cond (eqb (length (madeAt log st)) 0) 18 0
   unfolding step checksOf finalOf order
-  said = ap (λ (s : Step). number (s .reply)) e ∙ go (eqb (length (madeAt log st)) 0)
+  said = ap number e ∙ go (eqb (length (madeAt log st)) 0)
     where
-      go : (t : Bool) → number (cond t (record { reply = call.refused 18; state = stateOf m log }) (stepped (made (take 16 (madeAt log st))) m log) .reply) ≡ cond t 18 0
+      go : (t : Bool) → number (cond t (answers s (call.refused 18)) (answers s (made (take 16 (madeAt log st)))) .reply) ≡ cond t 18 0
       go true = refl
       go false = refl
 

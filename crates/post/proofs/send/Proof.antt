@@ -1,4 +1,6 @@
 -- `send` meets its contract: refusal 18, or what writing the message says.
+use denote.Ref.{now}
+use Rattle.memory.specs.Memory.{stateOf}
 use Rattle.post.proofs.Laws.{refused-sends, made-sends}
 use borrow.Author.Needs.{needs}
 use Rattle.post.proofs.send.Statement.{statement}
@@ -19,7 +21,7 @@ write-message-requires c κs = search needs
 returns : tie.Need-returns
 returns c =
     let m = c .before .before .before in
-    refused-sends (m .before .before .args .master) _ _ _ (m .made .ensures .0) _ _ (c .before .answer .given .1)
+    refused-sends (stateOf (now (m .before .before .args .memory))) _ _ (m .made .ensures .0) _ _ (c .before .answer .given .1)
 
 same-length : tie.Need-same-length
 same-length c = search needs
@@ -29,7 +31,7 @@ returns-2 c =
     let w = c .before .before in
     let t = w .before .before .before in
     let m = t .before .before in
-    made-sends (m .before .before .args .master) _ _ _ (m .made .ensures .0) _ _ _ (w .write-message .result) (t .enum-told .given .1) (m .made .ensures .1) (w .write-message .ensures .0) (w .write-message .ensures .1)
+    made-sends (stateOf (now (m .before .before .args .memory))) _ _ (m .made .ensures .0) _ _ _ (w .write-message .result) (t .enum-told .given .1) (m .made .ensures .1) (w .write-message .ensures .0) (w .write-message .ensures .1)
 
 pub send-spec : {M : Type 1} → statement M
 send-spec =
