@@ -8,7 +8,7 @@ use Rattle.trial.specs.Reads.{Reads, reads}
 use Rattle.ledger.specs.declared.Counts.{Counts}
 use Rattle.ledger.specs.declared.Taken.{Taken}
 use Rattle.ledger.specs.Books.{Books, Verdicts, books, verdicts}
-use Rattle.ledger.specs.Take.{Step, step, takes}
+use Rattle.ledger.specs.Take.{Booking, booking, takes}
 
 -- the books name the rows' columns (which a table names), the reads' and the verdicts'
 pub books-one : {t t′ : Table} {s s′ : Reads} {v v′ : Verdicts} → books t s v ≡ books t′ s′ v′ → (t ≡ t′) × (s ≡ s′) × (v ≡ v′)
@@ -21,5 +21,5 @@ pub verdicts-one : {a b a′ b′ : List ℕ} → verdicts a b ≡ verdicts a′
 verdicts-one p = (ap (λ (v : Verdicts). v .names) p, ap (λ (v : Verdicts). v .codes) p)
 
 -- take
-pub take-one : (k : Counts) (b : Books) (line : ℕ) (e : Record) {r r′ : Taken} {c c′ : Books} → step r c ≡ takes k b line e → step r′ c′ ≡ takes k b line e → (r ≡ r′) × (c ≡ c′)
-take-one k b line e p q = (ap (λ (s : Step). s .reply) (p ∙ sym q), ap (λ (s : Step). s .books) (p ∙ sym q))
+pub take-one : (k : Counts) (b : Books) (line : ℕ) (e : Record) {r r′ : Taken} {c c′ : Books} → booking r c ≡ takes k b line e → booking r′ c′ ≡ takes k b line e → (r ≡ r′) × (c ≡ c′)
+take-one k b line e p q = (ap (λ (s : Booking). s .reply) (p ∙ sym q), ap (λ (s : Booking). s .books) (p ∙ sym q))

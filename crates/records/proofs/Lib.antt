@@ -1,3 +1,4 @@
+pub mod Parts
 pub mod Word
 pub mod Rows
 pub mod Order

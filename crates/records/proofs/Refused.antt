@@ -8,12 +8,12 @@ use lib.ListN.{length}
 use borrow.Author.Tests.{ne-eqb}
 use Rattle.lists.specs.Lists.{any, count, bit}
 use Rattle.lists.proofs.Count.{count-empty, count-step}
+use Rattle.records.specs.Parts.{isStart, isCommit, nameOf, starts, isAbort}
 use Rattle.records.specs.declared.Record.{Record}
-use Rattle.records.specs.declared.Record.the-variants.{Start, Tune, Read, Write, Commit, Abort}
-use Rattle.records.specs.Written.{History, isStart, isCommit, commitLine}
-use Rattle.records.specs.Ledger.{Ledger, refused, went, rowOf, nameOf, isOpen, nowhere, changed, step}
-use Rattle.records.specs.Tally.{starts}
-use Rattle.records.specs.Mirror.{isAbort, endIn, openIn, refusalIn, numberOf}
+use Rattle.records.specs.declared.Record.the-variants.{Start}
+use Rattle.records.specs.Written.{History, commitLine}
+use Rattle.records.specs.Ledger.{Ledger, refused, went, rowOf, isOpen, nowhere, changed, begun, moved as movedOn, lineStep}
+use Rattle.records.specs.Mirror.{endIn, openIn, refusalIn, outcomeNumber}
 use Rattle.records.specs.Judge.{Taken}
 use Rattle.records.proofs.Lines.{line-some}
 use Rattle.records.proofs.Rows.{become-length}
@@ -48,15 +48,15 @@ open-exactly h t = go (any (isCommit t) h) refl (any (isAbort t) h) (any (isStar
     go false e false false = refl
 
 -- what a test leaves of two outcomes
-either : (n : ℕ) (a b : Bool) (l : Ledger) → a ≡ b → numberOf (cond a (went l) (refused n)) ≡ cond b 0 n
+either : (n : ℕ) (a b : Bool) (l : Ledger) → a ≡ b → outcomeNumber (cond a (went l) (refused n)) ≡ cond b 0 n
 either n true true l e = refl
 either n true false l e = absurd (true≢false e)
 either n false true l e = absurd (false≢true e)
 either n false false l e = refl
 
-pub refused-exactly : {h : History} {l : Ledger} → Taken h l → length h ≤ 4096 → (e : Record) → numberOf (step (suc (length h)) e l) ≡ refusalIn h e
-unfolding step refusalIn
-refused-exactly {h} {l} taken lines = go
+pub refused-exactly : {h : History} {l : Ledger} → Taken h l → length h ≤ 4096 → (e : Record) → outcomeNumber (lineStep (suc (length h)) e l) ≡ refusalIn h e
+unfolding lineStep refusalIn
+refused-exactly {h} {l} taken lines e = go e (starts e)
   where
     r : Ran h l
     r = ran taken
@@ -64,15 +64,13 @@ refused-exactly {h} {l} taken lines = go
     is-open : (t : ℕ) → isOpen (rowOf (l .rows) t) ≡ openIn h t
     is-open t = ap (λ (n : ℕ). eqb n 0) (end-tied r (omega arith) t) ∙ open-exactly h t
 
-    used : (a b c d : Bool) (m : Ledger) → a ≡ b → c ≡ d → numberOf (cond a (refused 15) (cond c (refused 16) (went m))) ≡ cond b 15 (cond d 16 0)
+    used : (a b c d : Bool) (m : Ledger) → a ≡ b → c ≡ d → outcomeNumber (cond a (refused 15) (cond c (refused 16) (went m))) ≡ cond b 15 (cond d 16 0)
     used true b c d m e q = rw (← e)
     used false b true d m e q = rw (← e, ← q)
     used false b false d m e q = rw (← e, ← q)
 
-    go : (e : Record) → numberOf (step (suc (length h)) e l) ≡ refusalIn h e
-    go (Start t) = used _ _ _ _ _ (named-started r t) (ap (leb 512) (rows-counted r))
-    go (Tune t b) = either 15 _ _ _ (is-open t)
-    go (Read t x w) = either 15 _ _ _ (is-open t)
-    go (Write t x) = either 15 _ _ _ (is-open t)
-    go (Commit t) = either 15 _ _ _ (is-open t)
-    go (Abort t) = either 15 _ _ _ (is-open t)
+    go : (e : Record) (b : Bool)
+        → outcomeNumber (cond b (begun (suc (length h)) (nameOf e) l) (movedOn (suc (length h)) e l))
+        ≡ cond b (cond (any (isStart (nameOf e)) h) 15 (cond (leb 512 (count starts h)) 16 0)) (cond (openIn h (nameOf e)) 0 15)
+    go e true = used _ _ _ _ _ (named-started r (nameOf e)) (ap (leb 512) (rows-counted r))
+    go e false = either 15 _ _ _ (is-open (nameOf e))

@@ -8,14 +8,15 @@ use lib.ListN.{length}
 use borrow.Author.Tests.{ne-eqb}
 use Rattle.lists.specs.Lists.{count, bit}
 use Rattle.lists.proofs.Count.{count-le, count-empty, count-step}
+use Rattle.records.specs.Parts.{nameOf, starts, commits, aborts}
 use Rattle.records.specs.declared.Record.{Record}
 use Rattle.records.specs.declared.Record.the-variants.{Start, Tune, Read, Write, Commit, Abort}
 use Rattle.records.specs.declared.Row.{Row}
 use Rattle.records.specs.declared.Totals.{Totals}
 use Rattle.records.specs.Written.{History}
-use Rattle.records.specs.Ledger.{Ledger, rowOf, nameOf, isOpen, nowhere, freshRow, changed, isRecorded}
+use Rattle.records.specs.Ledger.{Ledger, rowOf, isOpen, nowhere, freshRow, changed, isRecorded}
 use Rattle.records.specs.Totals.{noTotals, raised, more}
-use Rattle.records.specs.Tally.{starts, commits, aborts, totalsOf, Counts}
+use Rattle.records.specs.Tally.{totalsOf, Counts}
 use Rattle.records.specs.Judge.{Taken}
 use Rattle.records.proofs.Rows.{open-there, become-count}
 use Rattle.records.proofs.Runs.{Ran, bare, began, moved, movedAt, ran}

@@ -23,15 +23,15 @@ abbrev pub totalTwo : Totals
 totalTwo = record { started = 2; committed = 2; aborted = 0; «open» = 0 }
 
 -- what is said of the lines of a history: the verdicts, and the totals
-pub record Says (records : List Record) (judged : List Judged) (total : Totals) : Type 0 where
+pub record JudgedAs (records : List Record) (judged : List Judged) (total : Totals) : Type 0 where
   pub ledger : Ledger
   pub taken : Taken (reverse records) ledger
   pub verdicts : reverse (ledger .judged) ≡ judged
   pub totals : totalsOf (reverse records) ≡ total
 
 abbrev pub P10 : Type 0
-P10 = Says lines judgedTwo totalTwo
+P10 = JudgedAs lines judgedTwo totalTwo
 
 -- "Empty input: `judge 0`, `total 0 0 0 0`"
 abbrev pub Empty : Type 0
-Empty = Says [] [] noTotals
+Empty = JudgedAs [] [] noTotals

@@ -1,3 +1,4 @@
+pub mod Parts
 pub mod Written
 pub mod Ledger
 pub mod Order

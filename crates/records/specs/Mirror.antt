@@ -1,6 +1,6 @@
 -- What the ledger after the lines of a history holds of them, and which line is refused, in words of the history alone.
 use Prim.Native.Nat.{ℕ, _≤_, _<_}
-use mathlib.Core.Bool.{Bool, true, false, cond, not, _&&_, _||_}
+use mathlib.Core.Bool.{Bool, true, cond, not, _&&_, _||_}
 use mathlib.Core.List.{map}
 use mathlib.Core.Path.{_≡_}
 use lib.Dec.{eqb, leb, ltb}
@@ -8,20 +8,11 @@ use Rattle.lists.specs.Lists.{any, count}
 use Rattle.lists.specs.Members.{Distinct}
 use Rattle.lists.specs.Along.{Along}
 use Rattle.records.specs.declared.Record.{Record}
-use Rattle.records.specs.declared.Record.the-variants.{Start, Tune, Read, Write, Commit, Abort}
+use Rattle.records.specs.Parts.{nameOf, starts, isStart, isCommit, isAbort}
 use Rattle.records.specs.declared.Row.{Row}
 use Rattle.records.specs.declared.Seen.{Seen}
-use Rattle.records.specs.Written.{History, ReadLine, isStart, isCommit, startLine, commitLine, boundsIn, wrote, recordedReads, stampOf, upTo, between}
+use Rattle.records.specs.Written.{History, ReadLine, startLine, commitLine, boundsIn, wrote, recordedReads, stampOf, upTo, between}
 use Rattle.records.specs.Ledger.{Ledger, Outcome, refused, went, nowhere, named, rowOf, has, chain, rowsUpTo, rowsBetween}
-use Rattle.records.specs.Tally.{starts}
-
-abbrev pub isAbort : ℕ → Record → Bool
-isAbort t (Start u) = false
-isAbort t (Tune u b) = false
-isAbort t (Read u x w) = false
-isAbort t (Write u x) = false
-isAbort t (Commit u) = false
-isAbort t (Abort u) = eqb u t
 
 -- where a transaction ended: the line of its commit, nowhere where it was aborted (or never started), 0 while it is open
 unfoldable pub endIn : History → ℕ → ℕ
@@ -55,13 +46,8 @@ openIn h t = any (isStart t) h && not (any (isCommit t) h || any (isAbort t) h)
 -- the number that document 01's table gives a record after the lines h, 0 where it is taken: "`s` of a number used before; another record of
 -- one not started or already ended", "513th `s`"
 unfoldable pub refusalIn : History → Record → ℕ
-refusalIn h (Start t) = cond (any (isStart t) h) 15 (cond (leb 512 (count starts h)) 16 0)
-refusalIn h (Tune t b) = cond (openIn h t) 0 15
-refusalIn h (Read t x w) = cond (openIn h t) 0 15
-refusalIn h (Write t x) = cond (openIn h t) 0 15
-refusalIn h (Commit t) = cond (openIn h t) 0 15
-refusalIn h (Abort t) = cond (openIn h t) 0 15
+refusalIn h r = cond (starts r) (cond (any (isStart (nameOf r)) h) 15 (cond (leb 512 (count starts h)) 16 0)) (cond (openIn h (nameOf r)) 0 15)
 
-abbrev pub numberOf : Outcome → ℕ
-numberOf (refused n) = n
-numberOf (went l) = 0
+abbrev pub outcomeNumber : Outcome → ℕ
+outcomeNumber (refused n) = n
+outcomeNumber (went l) = 0

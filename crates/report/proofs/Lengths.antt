@@ -11,16 +11,16 @@ use Rattle.records.specs.declared.Judged.{Judged}
 use Rattle.records.specs.declared.Totals.{Totals}
 use Rattle.records.specs.declared.Verdict.{Verdict}
 use Rattle.records.specs.declared.Verdict.the-variants.{Ok, RC, BV, FV, SV, WC}
-use Rattle.report.specs.Report.{lineOf, judge, total, refused, verdictWord, judged, judgedList, headLine, verdictLine, verdictLines, totalLine, reportText, refusedText}
+use Rattle.report.specs.Report.{spacedLine, judge, total, refused, verdictWord, judged, judgedList, headLine, verdictLine, verdictLines, totalLine, reportText, refusedText}
 use Rattle.report.proofs.Lines.{judged-length}
 
-last-length : (f : List ℕ) → length (lineOf f []) ≡ length f + 1
-unfolding lineOf
+last-length : (f : List ℕ) → length (spacedLine f []) ≡ length f + 1
+unfolding spacedLine
 last-length f = length-append f (10 ∷ [])
 
-then-length : (f g : List ℕ) (gs : List (List ℕ)) → length (lineOf f (g ∷ gs)) ≡ length f + 1 + length (lineOf g gs)
-unfolding lineOf
-then-length f g gs = length-append (f ++ (32 ∷ [])) (lineOf g gs) ∙ ap (λ (k : ℕ). k + length (lineOf g gs)) (length-append f (32 ∷ []))
+then-length : (f g : List ℕ) (gs : List (List ℕ)) → length (spacedLine f (g ∷ gs)) ≡ length f + 1 + length (spacedLine g gs)
+unfolding spacedLine
+then-length f g gs = length-append (f ++ (32 ∷ [])) (spacedLine g gs) ∙ ap (λ (k : ℕ). k + length (spacedLine g gs)) (length-append f (32 ∷ []))
 
 word-length : (v : Verdict) → length (verdictWord v) ≡ 2
 unfolding verdictWord

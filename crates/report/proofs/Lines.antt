@@ -13,16 +13,16 @@ use Rattle.records.proofs.Order.{verdict-past}
 use Rattle.records.specs.declared.Judged.{Judged}
 use Rattle.records.specs.declared.Totals.{Totals}
 use Rattle.records.specs.declared.Verdict.the-variants.{WC}
-use Rattle.report.specs.Report.{lineOf, judge, total, refused, verdictWord, judged, judgedList, headLine, verdictLine, verdictLines, totalLine, reportText, refusedText}
+use Rattle.report.specs.Report.{spacedLine, judge, total, refused, verdictWord, judged, judgedList, headLine, verdictLine, verdictLines, totalLine, reportText, refusedText}
 
 -- ---- a line, field by field
 
-line-last : {b c : List ℕ} {at r : ℕ} (f : List ℕ) → Puts b c at (f ++ (10 ∷ [])) r → Puts b c at (lineOf f []) r
-unfolding lineOf
+line-last : {b c : List ℕ} {at r : ℕ} (f : List ℕ) → Puts b c at (f ++ (10 ∷ [])) r → Puts b c at (spacedLine f []) r
+unfolding spacedLine
 line-last f p = p
 
-line-then : {b c d : List ℕ} {at m r : ℕ} (f g : List ℕ) (gs : List (List ℕ)) → Puts b c at (f ++ (32 ∷ [])) m → Puts c d m (lineOf g gs) r → Puts b d at (lineOf f (g ∷ gs)) r
-unfolding lineOf
+line-then : {b c d : List ℕ} {at m r : ℕ} (f g : List ℕ) (gs : List (List ℕ)) → Puts b c at (f ++ (32 ∷ [])) m → Puts c d m (spacedLine g gs) r → Puts b d at (spacedLine f (g ∷ gs)) r
+unfolding spacedLine
 line-then f g gs p q = puts-then p q
 
 pub head-put : {b c d : List ℕ} {at m r : ℕ} (n : ℕ) → Puts b c at (judge ++ (32 ∷ [])) m → Puts c d m (decimal n ++ (10 ∷ [])) r → Puts b d at (headLine n) r

@@ -12,9 +12,9 @@ use Rattle.records.specs.declared.Verdict.{Verdict}
 use Rattle.records.specs.declared.Verdict.the-variants.{Ok, RC, BV, FV, SV, WC}
 
 -- the line of a field and those behind it: 32 is the space, 10 the newline
-unfoldable pub lineOf : List ℕ → List (List ℕ) → List ℕ
-lineOf f [] = f ++ (10 ∷ [])
-lineOf f (g ∷ gs) = f ++ (32 ∷ []) ++ lineOf g gs
+unfoldable pub spacedLine : List ℕ → List (List ℕ) → List ℕ
+spacedLine f [] = f ++ (10 ∷ [])
+spacedLine f (g ∷ gs) = f ++ (32 ∷ []) ++ spacedLine g gs
 
 -- `judge`, `total`, `refused`
 abbrev pub judge : List ℕ
@@ -36,23 +36,23 @@ verdictWord SV = 83 ∷ 86 ∷ []
 verdictWord WC = 87 ∷ 67 ∷ []
 
 unfoldable pub headLine : ℕ → List ℕ
-headLine n = lineOf judge (decimal n ∷ [])
+headLine n = spacedLine judge (decimal n ∷ [])
 
 unfoldable pub verdictLine : Judged → List ℕ
-verdictLine j = lineOf (decimal (j .name)) (verdictWord (j .verdict) ∷ [])
+verdictLine j = spacedLine (decimal (j .name)) (verdictWord (j .verdict) ∷ [])
 
 abbrev pub verdictLines : List Judged → List ℕ
 verdictLines js = joined verdictLine js
 
 unfoldable pub totalLine : Totals → List ℕ
-totalLine t = lineOf total (decimal (t .started) ∷ decimal (t .committed) ∷ decimal (t .aborted) ∷ decimal (t .«open») ∷ [])
+totalLine t = spacedLine total (decimal (t .started) ∷ decimal (t .committed) ∷ decimal (t .aborted) ∷ decimal (t .«open») ∷ [])
 
 -- the verdicts in order of commit lines
 unfoldable pub reportText : List Judged → Totals → List ℕ
 reportText js t = headLine (length js) ++ verdictLines js ++ totalLine t
 
 unfoldable pub refusedText : ℕ → ℕ → List ℕ
-refusedText number line = lineOf refused (decimal number ∷ decimal line ∷ [])
+refusedText number line = spacedLine refused (decimal number ∷ decimal line ∷ [])
 
 -- ---- the verdicts in two columns
 

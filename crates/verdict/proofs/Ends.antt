@@ -15,7 +15,7 @@ use Rattle.decimal.proofs.Tabs.{stands-then, stands-behind}
 use Rattle.decimal.proofs.Putting.{joined-snoc}
 use Rattle.records.specs.declared.Record.{Record}
 use Rattle.records.specs.Written.{History}
-use Rattle.records.specs.Ledger.{Ledger, Outcome, refused, went, blank, step}
+use Rattle.records.specs.Ledger.{Ledger, Outcome, refused, went, blank, lineStep}
 use Rattle.records.specs.Totals.{noTotals, raised}
 use Rattle.records.specs.Tally.{totalsOf}
 use Rattle.records.specs.Judge.{Taken, nothing, line}
@@ -32,14 +32,14 @@ use Rattle.verdict.specs.Refused.{Front}
 -- the lines of h stand before a place, in line order, and were taken; they led to this ledger
 pub data Passed (s : List ℕ) : History → ℕ → Ledger → Type 0 where
   first : Passed s [] 0 blank
-  past : {h : History} {at next : ℕ} {e : Record} {l m : Ledger} → Passed s h at l → Written s at e next → step (suc (length h)) e l ≡ went m → Passed s (e ∷ h) next m
+  past : {h : History} {at next : ℕ} {e : Record} {l m : Ledger} → Passed s h at l → Written s at e next → lineStep (suc (length h)) e l ≡ went m → Passed s (e ∷ h) next m
 
 -- the pass came to an end with this report
 pub data Ends (s : List ℕ) : Report → Type 0 where
   done : {h : History} {at : ℕ} {l : Ledger} → Passed s h at l → length h ≤ 4096 → length s ≤ at → Ends s (concluded l (totalsOf h))
   over : {h : History} {at : ℕ} {l : Ledger} → Passed s h at l → length h ≡ 4096 → at < length s → Ends s (said.refused 14 (suc (length h)))
   unread : {h : History} {at : ℕ} {l : Ledger} → Passed s h at l → length h < 4096 → lineAt s at ≡ read.the-variants.Bad → Ends s (said.refused 13 (suc (length h)))
-  stopped : {h : History} {at next : ℕ} {e : Record} {l : Ledger} {n : ℕ} → Passed s h at l → length h < 4096 → Written s at e next → step (suc (length h)) e l ≡ refused n
+  stopped : {h : History} {at next : ℕ} {e : Record} {l : Ledger} {n : ℕ} → Passed s h at l → length h < 4096 → Written s at e next → lineStep (suc (length h)) e l ≡ refused n
       → Ends s (said.refused n (suc (length h)))
 
 -- ---- the same in line order
@@ -104,18 +104,18 @@ module _ (s : List ℕ) where
   ends-from (suc left) {h} {at} {l} few p =
       go (lineAt s at) refl (λ e next m w q. subst (λ (n : ℕ). Ends s (lines left s next n m (raised e (totalsOf h)))) (sym (add-one (suc (length h)))) (ends-from left (omega arith) (past p w q)))
     where
-      step-on : (e : Record) (next : ℕ) (o : Outcome) → step (suc (length h)) e l ≡ o → Written s at e next
-          → ((m : Ledger) → step (suc (length h)) e l ≡ went m → Ends s (lines left s next (suc (length h) + 1) m (raised e (totalsOf h))))
+      step-on : (e : Record) (next : ℕ) (o : Outcome) → lineStep (suc (length h)) e l ≡ o → Written s at e next
+          → ((m : Ledger) → lineStep (suc (length h)) e l ≡ went m → Ends s (lines left s next (suc (length h) + 1) m (raised e (totalsOf h))))
           → Ends s (onOutcome o (λ m. lines left s next (suc (length h) + 1) m (raised e (totalsOf h))) (suc (length h)))
       step-on e next (refused n) q w f = stopped p (omega arith) w q
       step-on e next (went m) q w f = f m q
 
       go : (x : Line) → lineAt s at ≡ x
-          → ((e : Record) (next : ℕ) (m : Ledger) → Written s at e next → step (suc (length h)) e l ≡ went m → Ends s (lines left s next (suc (length h) + 1) m (raised e (totalsOf h))))
-          → Ends s (onLine x (concluded l (totalsOf h)) (λ e next. onOutcome (step (suc (length h)) e l) (λ m. lines left s next (suc (length h) + 1) m (raised e (totalsOf h))) (suc (length h))) (suc (length h)))
+          → ((e : Record) (next : ℕ) (m : Ledger) → Written s at e next → lineStep (suc (length h)) e l ≡ went m → Ends s (lines left s next (suc (length h) + 1) m (raised e (totalsOf h))))
+          → Ends s (onLine x (concluded l (totalsOf h)) (λ e next. onOutcome (lineStep (suc (length h)) e l) (λ m. lines left s next (suc (length h) + 1) m (raised e (totalsOf h))) (suc (length h))) (suc (length h)))
       go (read.the-variants.Taken e next) q f =
           let w : Written s at e next = line-exactly s at e next .0 q in
-          step-on e next (step (suc (length h)) e l) refl w (λ m. f e next m w)
+          step-on e next (lineStep (suc (length h)) e l) refl w (λ m. f e next m w)
       go read.the-variants.Bad q f = unread p (omega arith) q
       go read.the-variants.End q f = done p (omega arith) (end-exactly s at .0 q)
 
@@ -143,7 +143,7 @@ module _ (s : List ℕ) where
     unfolding lines
     at-unread few q = left-at p (suc (4095 - length h)) 4096 (omega arith) ∙ rw q
 
-    pub at-stopped : {e : Record} {next n : ℕ} → length h < 4096 → Written s at e next → step (suc (length h)) e l ≡ refused n
+    pub at-stopped : {e : Record} {next n : ℕ} → length h < 4096 → Written s at e next → lineStep (suc (length h)) e l ≡ refused n
         → lines 4096 s 0 1 blank noTotals ≡ said.refused n (suc (length h))
     unfolding lines
     at-stopped {e} {next} few w q = left-at p (suc (4095 - length h)) 4096 (omega arith) ∙ rw (line-exactly s at e next .1 w, q)

@@ -9,12 +9,13 @@ use lib.Dec.{leb}
 use lib.ListN.{length}
 use Rattle.lists.specs.Lists.{any, count}
 use Rattle.lists.proofs.Count.{any-count}
+use Rattle.records.specs.Parts.{nameOf}
 use Rattle.records.specs.declared.Record.{Record}
 use Rattle.records.specs.declared.Record.the-variants.{Start, Tune, Read, Write, Commit, Abort}
 use Rattle.records.specs.declared.Row.{Row}
 use Rattle.records.specs.declared.Seen.{Seen}
 use Rattle.records.specs.Written.{History}
-use Rattle.records.specs.Ledger.{Ledger, refused, went, nameOf, named, rowOf, isOpen, isRecorded, changed, noted, step}
+use Rattle.records.specs.Ledger.{Ledger, refused, went, named, rowOf, isOpen, isRecorded, changed, noted, lineStep}
 use Rattle.records.specs.Tally.{totalsOf, Counts}
 use Rattle.records.specs.Judge.{Taken, nothing, line, Right}
 use Rattle.records.proofs.Rows.{open-there, any-row, become-length}
@@ -34,8 +35,8 @@ moves n e l m h q =
     stays (isOpen (rowOf (l .rows) (nameOf e))) 15 (movedAt n e l) m
     (rw (become-length (l .rows) (nameOf e) (changed n (length (l .seens)) e (rowOf (l .rows) (nameOf e)))) h) q
 
-rows-step : (n : ℕ) (e : Record) (l m : Ledger) → length (l .rows) ≤ 512 → step n e l ≡ went m → length (m .rows) ≤ 512
-unfolding step
+rows-step : (n : ℕ) (e : Record) (l m : Ledger) → length (l .rows) ≤ 512 → lineStep n e l ≡ went m → length (m .rows) ≤ 512
+unfolding lineStep
 rows-step n (Start t) l m h q = go (any (named t) (l .rows)) (leb 512 (length (l .rows))) refl q
   where
     go : (a b : Bool) → leb 512 (length (l .rows)) ≡ b → cond a (refused 15) (cond b (refused 16) (went (begunAt n t l))) ≡ went m → length (m .rows) ≤ 512

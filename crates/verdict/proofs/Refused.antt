@@ -9,14 +9,14 @@ use borrow.Author.Tests.{ltb-true, ltb-false, lt-ltb, le-ltb}
 use lib.Dec.{leb, ltb}
 use lib.ListN.{length, length-reverse}
 use Rattle.lists.specs.Lists.{any, count}
+use Rattle.records.specs.Parts.{isStart, starts}
 use Rattle.records.specs.declared.Record.{Record}
 use Rattle.records.specs.declared.Record.the-variants.{Start, Tune, Read, Write, Commit, Abort}
-use Rattle.records.specs.Written.{History, isStart}
-use Rattle.records.specs.Ledger.{Ledger, Outcome, went, blank, named, rowOf, isOpen, step}
+use Rattle.records.specs.Written.{History}
+use Rattle.records.specs.Ledger.{Ledger, Outcome, went, blank, named, rowOf, isOpen, lineStep}
 use Rattle.records.specs.Ledger as meaning
 use Rattle.records.specs.Totals.{noTotals}
-use Rattle.records.specs.Tally.{starts}
-use Rattle.records.specs.Mirror.{refusalIn, numberOf}
+use Rattle.records.specs.Mirror.{refusalIn, outcomeNumber}
 use Rattle.records.proofs.Refused as records
 use Rattle.records.proofs.Runs.{begunAt, movedAt}
 use Rattle.history.specs.Text.{Written}
@@ -37,8 +37,8 @@ stays : (b : Bool) (m : Ledger) {k : ℕ} → cond b (went m) (meaning.refused 1
 stays true m q = not-refused q
 stays false m q = same-number q
 
-numbers : (n : ℕ) (e : Record) (l : Ledger) {k : ℕ} → step n e l ≡ meaning.refused k → (k ≡ 15) ⊎ (k ≡ 16)
-unfolding step
+numbers : (n : ℕ) (e : Record) (l : Ledger) {k : ℕ} → lineStep n e l ≡ meaning.refused k → (k ≡ 15) ⊎ (k ≡ 16)
+unfolding lineStep
 numbers n (Start t) l {k} q = go (any (named t) (l .rows)) (leb 512 (length (l .rows))) q
   where
     go : (a b : Bool) → cond a (meaning.refused 15) (cond b (meaning.refused 16) (went (begunAt n t l))) ≡ meaning.refused k → (k ≡ 15) ⊎ (k ≡ 16)
@@ -51,7 +51,7 @@ numbers n (Write t x) l q = inl (stays (isOpen (rowOf (l .rows) t)) (movedAt n (
 numbers n (Commit t) l q = inl (stays (isOpen (rowOf (l .rows) t)) (movedAt n (Commit t) l) q)
 numbers n (Abort t) l q = inl (stays (isOpen (rowOf (l .rows) t)) (movedAt n (Abort t) l) q)
 
-refuses-with : (o : Outcome) {k : ℕ} → 1 ≤ k → numberOf o ≡ k → o ≡ meaning.refused k
+refuses-with : (o : Outcome) {k : ℕ} → 1 ≤ k → outcomeNumber o ≡ k → o ≡ meaning.refused k
 refuses-with (meaning.refused n) some q = ap (λ (k : ℕ). meaning.refused k) q
 refuses-with (went l) some q = absurd (omega arith)
 
@@ -80,7 +80,7 @@ module _ (s : List ℕ) where
         same-line = omega (arith, length-reverse h)
 
         says : refusalIn (reverse (reverse h)) e ≡ k
-        says = ap (λ (x : History). refusalIn x e) (reverse-reverse h) ∙ sym (records.refused-exactly (passed-taken s p) (omega arith) e) ∙ ap numberOf z
+        says = ap (λ (x : History). refusalIn x e) (reverse-reverse h) ∙ sym (records.refused-exactly (passed-taken s p) (omega arith) e) ∙ ap outcomeNumber z
 
         go : (k ≡ 15) ⊎ (k ≡ 16) → Refuses s n l
         go (inl i) = row (misplaced short (passed-front s p) lines-before w (says ∙ i)) same-line (ap (λ (x : ℕ). refused x (suc (length h))) (sym i) ∙ q)
@@ -105,7 +105,7 @@ module _ (s : List ℕ) where
     stops some q =
         let k : length (reverse rs) < 4096 = omega (arith, length-reverse rs) in
         report short
-        (at-stopped s (front-passed s f) k w (refuses-with (step (suc (length (reverse rs))) e (f .ledger)) some (records.refused-exactly (f .taken) (omega arith) e ∙ q)))
+        (at-stopped s (front-passed s f) k w (refuses-with (lineStep (suc (length (reverse rs))) e (f .ledger)) some (records.refused-exactly (f .taken) (omega arith) e ∙ q)))
         (omega (arith, length-reverse rs))
 
   refused-there : {n l : ℕ} → Refuses s n l → reportOf s ≡ refused n l

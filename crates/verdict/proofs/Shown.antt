@@ -14,7 +14,7 @@ use Rattle.report.specs.Report.{refusedText}
 use Rattle.report.specs.Write.{writtenAs}
 use Rattle.verdict.specs.declared.Answer.{Answer}
 use Rattle.verdict.specs.declared.Answer as answer
-use Rattle.verdict.specs.Reply.{Reply, refusedAt, replyOf}
+use Rattle.verdict.specs.Reply.{refusedAt, replyOf}
 use Rattle.verdict.specs.Show.{shownBytes, shownRoom}
 
 abbrev count : Written → ℕ

@@ -4,13 +4,12 @@ use Prim.Native.Nat.{ℕ}
 use mathlib.Core.List.{List, [], _∷_}
 use mathlib.Core.Path.{_≡_}
 use lib.IntN.{ℤ, pos, negsuc}
-use Rattle.units.specs.declared.Version.{Version}
 use Rattle.units.specs.declared.rule.Rule.the-variants.{BV, FV, SV, WC}
 use Rattle.records.specs.declared.Record.{Record}
 use Rattle.records.specs.declared.Judged.{Judged}
 use Rattle.records.specs.declared.Totals.{Totals}
 use Rattle.records.specs.declared.Verdict.{Verdict}
-use Rattle.records.specs.Example.{Says}
+use Rattle.records.specs.Example.{JudgedAs}
 use Rattle.model.specs.State.{opened}
 use Rattle.model.specs.Call.{Call, Start, Read, Note, Write, Tune, Distance, Commit, Reply, started, version, done, apartBy, committed, aborted}
 use Rattle.model.specs.Session.{replies}
@@ -22,7 +21,7 @@ pub data Row : Type 0 where
 
 abbrev pub Holds : Row → Type 0
 Holds (session calls expected) = replies (opened 0) calls ≡ expected
-Holds (history records verdicts totals) = Says records verdicts totals
+Holds (history records verdicts totals) = JudgedAs records verdicts totals
 
 abbrev pub answered : ℕ → ℕ → ℤ → Reply
 answered ordinal stamp value = version (record { ordinal = record { 0 = ordinal }; stamp = record { 0 = stamp }; value = value })

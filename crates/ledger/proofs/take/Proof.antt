@@ -4,7 +4,7 @@ use Rattle.rows.specs.Table.{table}
 use Rattle.trial.specs.Reads.{reads}
 use Rattle.ledger.specs.Books.{books, verdicts}
 use Rattle.ledger.proofs.Cases.{take-fails, take-passes}
-use Rattle.ledger.proofs.Meant.{meant, as-meant}
+use Rattle.ledger.proofs.Meant.{as-meant}
 use borrow.Author.Needs.{needs}
 use Rattle.ledger.proofs.take.Statement.{statement}
 use Rattle.ledger.proofs.take.Tie as tie
