@@ -22,6 +22,7 @@ use Rattle.records.specs.declared.Row.{Row}
 use Rattle.records.specs.Written.{History, lineWhere, startLine, commitLine, wrote, boundsIn}
 use Rattle.records.specs.Ledger.{Ledger, rowOf, become, named, isOpen, noRow, nowhere, freshRow, changed, isRecorded, withLast, has}
 use Rattle.records.specs.Mirror.{endIn}
+use Rattle.records.proofs.Tuned.{last-counts}
 use Rattle.records.proofs.Word.{has-plus}
 use Rattle.records.proofs.Rows.{unnamed, open-named, open-there, become-same, become-other, become-names, become-named, named-names, changed-name}
 use Rattle.records.proofs.Runs.{Ran, bare, began, moved}
@@ -190,7 +191,7 @@ bounds-tied r small t started = tied (λ (q : Row). q .bounds) boundsOrNone (λ 
     moves : (g : History) (e : Record) (n : ℕ) (q : Row) → Moves g e q
         → q .bounds ≡ boundsOrNone g (nameOf e) → changed (suc (length g)) n e q .bounds ≡ boundsOrNone (e ∷ g) (nameOf e)
     moves g (Start u) n q m ih = absurd (true≢false (m .moving))
-    moves g (Tune u b) n q m ih = rw (m .started, eq-eqb u u refl)
+    moves g (Tune u b) n q m ih = rw (m .started) (sym (last-counts u g b none))
     moves g (Read u x w) n q m ih = read-keeps (λ (a : Row). a .bounds) q (suc n) (isRecorded q x w) refl ∙ ih
     moves g (Write u x) n q m ih = ih
     moves g (Commit u) n q m ih = ih

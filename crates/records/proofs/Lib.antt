@@ -1,4 +1,5 @@
 pub mod Parts
+pub mod Tuned
 pub mod Word
 pub mod Rows
 pub mod Order
@@ -13,6 +14,7 @@ pub mod Later
 pub mod Overtaken
 pub mod Verdicts
 pub mod Tallies
+pub mod Table
 pub mod Refused
 pub mod Readings
 pub mod Example

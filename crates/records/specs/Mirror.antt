@@ -1,14 +1,13 @@
 -- What the ledger after the lines of a history holds of them, and which line is refused, in words of the history alone.
 use Prim.Native.Nat.{ℕ, _≤_, _<_}
-use mathlib.Core.Bool.{Bool, true, cond, not, _&&_, _||_}
+use mathlib.Core.Bool.{Bool, true, cond, _&&_, _||_}
 use mathlib.Core.List.{map}
 use mathlib.Core.Path.{_≡_}
-use lib.Dec.{eqb, leb, ltb}
-use Rattle.lists.specs.Lists.{any, count}
+use lib.Dec.{eqb, ltb}
+use Rattle.lists.specs.Lists.{any}
 use Rattle.lists.specs.Members.{Distinct}
 use Rattle.lists.specs.Along.{Along}
-use Rattle.records.specs.declared.Record.{Record}
-use Rattle.records.specs.Parts.{nameOf, starts, isStart, isCommit, isAbort}
+use Rattle.records.specs.Parts.{isStart, isCommit, isAbort}
 use Rattle.records.specs.declared.Row.{Row}
 use Rattle.records.specs.declared.Seen.{Seen}
 use Rattle.records.specs.Written.{History, ReadLine, startLine, commitLine, boundsIn, wrote, recordedReads, stampOf, upTo, between}
@@ -39,15 +38,7 @@ pub record Mirrors (h : History) (l : Ledger) : Type 0 where
   pub upto : (x c : ℕ) → c < nowhere → rowsUpTo (l .rows) x c ≡ upTo h x c
   pub apart : (x after before : ℕ) → before ≤ nowhere → rowsBetween (l .rows) x after before ≡ between h x after before
 
--- a transaction that has started and not ended
-abbrev pub openIn : History → ℕ → Bool
-openIn h t = any (isStart t) h && not (any (isCommit t) h || any (isAbort t) h)
-
--- the number that document 01's table gives a record after the lines h, 0 where it is taken: "`s` of a number used before; another record of
--- one not started or already ended", "513th `s`"
-unfoldable pub refusalIn : History → Record → ℕ
-refusalIn h r = cond (starts r) (cond (any (isStart (nameOf r)) h) 15 (cond (leb 512 (count starts h)) 16 0)) (cond (openIn h (nameOf r)) 0 15)
-
+-- the number of an outcome, 0 where the line is taken
 abbrev pub outcomeNumber : Outcome → ℕ
 outcomeNumber (refused n) = n
 outcomeNumber (went l) = 0

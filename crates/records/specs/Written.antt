@@ -13,6 +13,7 @@ use Rattle.lists.specs.Lists.{any, count, filter, Every}
 use Rattle.units.specs.Bounds.{default}
 use Rattle.units.specs.declared.Bounds.{Bounds}
 use Rattle.records.specs.declared.Record.{Record}
+use Rattle.records.specs.declared.Record.the-variants.{Tune}
 use Rattle.records.specs.Parts.{partsOf, nameOf, commits, isStart, isTune, isRead, isWrite, isCommit}
 
 abbrev pub History : Type 0
@@ -36,6 +37,10 @@ wrote h t x = any (isWrite t x) h
 unfoldable pub boundsIn : History → ℕ → Bounds
 boundsIn [] t = default
 boundsIn (r ∷ h) t = cond (isTune t r) (partsOf r .bounds) (boundsIn h t)
+
+-- a line that is no `k` line of t
+abbrev pub NoTune : ℕ → Record → Type 0
+NoTune t r = (b : Bounds) → r ≢ Tune t b
 
 -- whether a record, after the lines h, makes a version of x: "a version is a committed transaction that wrote the key"
 abbrev pub makes : ℕ → History → Record → Bool

@@ -7,7 +7,7 @@ use mathlib.Core.Bool.{Bool, true, false, cond}
 use mathlib.Core.List.{List, [], _∷_, _++_, reverse, reverseAux, reverse-cons, reverse-reverse, append-assoc}
 use borrow.Author.Tests.{leb-true, leb-false, lt-leb}
 use lib.Dec.{leb}
-use lib.ListN.{length, drop}
+use lib.ListN.{length, drop, length-reverse}
 use Rattle.lists.specs.Lists.{Every, none, also}
 use Rattle.decimal.specs.Text.{joined}
 use Rattle.decimal.specs.Read.{Stands}
@@ -19,6 +19,8 @@ use Rattle.records.specs.Ledger.{Ledger, Outcome, refused, went, blank, lineSte
 use Rattle.records.specs.Totals.{noTotals, raised}
 use Rattle.records.specs.Tally.{totalsOf}
 use Rattle.records.specs.Judge.{Taken, nothing, line}
+use Rattle.records.specs.Refused.{Unrefused}
+use Rattle.records.proofs.Refused.{taken-unrefused, unrefused-taken}
 use Rattle.history.specs.declared.Line.{Line}
 use Rattle.history.specs.declared.Line as read
 use Rattle.history.specs.Line.{lineAt}
@@ -68,13 +70,12 @@ module _ (s : List ℕ) where
   pub passed-back : {h : History} {at : ℕ} {l : Ledger} → Passed s h at l → Taken (reverse (reverse h)) l
   passed-back {h} {l = l} p = subst (λ (x : History). Taken x l) (sym (reverse-reverse h)) (passed-taken p)
 
-  pub passed-front : {h : History} {at : ℕ} {l : Ledger} → Passed s h at l → Front s (reverse h) at
-  passed-front {h} {at} {l} p =
+  pub passed-front : {h : History} {at : ℕ} {l : Ledger} → Passed s h at l → length h ≤ 4096 → Front s (reverse h) at
+  passed-front {h} p few =
       record {
         stands = passed-stands p;
         form = every-onto (passed-form p) none;
-        ledger = l;
-        taken = passed-back p;
+        unrefused = subst Unrefused (sym (reverse-reverse h)) (taken-unrefused (passed-taken p) few);
       }
 
   taken-passed : {h : History} {l : Ledger} → Taken h l → Every InForm h → (at : ℕ) → Stands (texts (reverse h)) s 0 at → Passed s h at l
@@ -88,9 +89,12 @@ module _ (s : List ℕ) where
       record { ends = refl; here = both .here ∙ append-assoc t (textOf e) (drop at s) ∙ ap (λ (x : List ℕ). t ++ x) (sym (last .here)) } in
       past (taken-passed k fs (0 + length t) before) (record { stands = last; form = f }) q
 
-  pub front-passed : {rs : List Record} {at : ℕ} (f : Front s rs at) → Passed s (reverse rs) at (f .ledger)
-  front-passed {rs} {at} f =
-      taken-passed (f .taken) (every-onto (f .form) none) at (subst (λ (x : List Record). Stands (texts x) s 0 at) (sym (reverse-reverse rs)) (f .stands))
+  pub front-taken : {rs : List Record} {at : ℕ} → Front s rs at → length rs ≤ 4096 → (l : Ledger) × Taken (reverse rs) l
+  front-taken {rs} f few = unrefused-taken (f .unrefused) (omega (arith, length-reverse rs))
+
+  pub front-passed : {rs : List Record} {at : ℕ} (f : Front s rs at) (few : length rs ≤ 4096) → Passed s (reverse rs) at (front-taken f few .0)
+  front-passed {rs} {at} f few =
+      taken-passed (front-taken f few .1) (every-onto (f .form) none) at (subst (λ (x : List Record). Stands (texts x) s 0 at) (sym (reverse-reverse rs)) (f .stands))
 
   -- ---- the pass ends so
 

@@ -14,8 +14,7 @@ use Rattle.records.specs.declared.Judged.{Judged}
 use Rattle.records.specs.declared.Totals.{Totals}
 use Rattle.records.specs.Ledger.{rowOf, become, rowsUpTo, rowsBetween, resolved, chain, verdictOn, changed, noted, concluded, lineStep}
 use Rattle.records.specs.Totals.{noTotals}
-use Rattle.records.specs.Example.{judgedTwo, totalTwo}
-use Rattle.records.specs.Example as records
+use Rattle.records.specs.Example.{p10Lines, p10Judged, p10Totals}
 use Rattle.history.specs.Text.{textOf}
 use Rattle.history.specs.Records.{texts}
 use Rattle.history.specs.Line.{ended, tuneAt, readAt, writeAt, behindName, lineAt}
@@ -25,13 +24,13 @@ use Rattle.verdict.specs.Reply.{bytes, refusedAt, replied, roomAfter}
 use Rattle.verdict.specs.Example.{Prints, history, output, emptyOutput}
 
 -- the bytes are the text of P10's records
-pub history-text : texts records.lines ≡ history
+pub history-text : texts p10Lines ≡ history
 unfolding joined textOf decimal spelt
 history-text = refl
 
 -- what is said of document 01's history and of the empty one; then `c 2` unended, and `c 1` of one not started
 pub examples :
-    (reportOf history ≡ judged judgedTwo totalTwo)
+    (reportOf history ≡ judged p10Judged p10Totals)
     × (reportOf [] ≡ judged [] noTotals)
     × (reportOf (115 ∷ 9 ∷ 50 ∷ 10 ∷ 99 ∷ 9 ∷ 50 ∷ []) ≡ refused 13 2)
     × (reportOf (115 ∷ 9 ∷ 50 ∷ 10 ∷ 99 ∷ 9 ∷ 49 ∷ 10 ∷ []) ≡ refused 15 2)
@@ -53,7 +52,7 @@ module _ (js : List Judged) (t : Totals) (room : List ℕ) where
 pub prints : (s : List ℕ) (js : List Judged) (t : Totals) → reportOf s ≡ judged js t → Prints s (reportText js t)
 prints s js t e = record { whole = λ room h. rw e (fits js t room h); short = λ room h. rw e (lacks js t room h) }
 
-output-text : reportText judgedTwo totalTwo ≡ output
+output-text : reportText p10Judged p10Totals ≡ output
 unfolding reportText headLine joined verdictLine totalLine spacedLine verdictWord decimal spelt
 output-text = refl
 

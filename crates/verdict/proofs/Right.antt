@@ -27,7 +27,7 @@ module _ (s : List ℕ) where
   -- nothing is left behind the lines
   whole : {h : History} {at : ℕ} {l : Ledger} → Passed s h at l → length h ≤ 4096 → length s ≤ at → Whole s (reverse (l .judged)) (totalsOf h)
   whole {h} {at} {l} p most end =
-      let f : Front s (reverse h) at = passed-front s p in
+      let f : Front s (reverse h) at = passed-front s p most in
       let few : length (reverse (reverse h)) ≤ 4096 = omega (arith, length-reverse h, length-reverse (reverse h)) in
       record {
         records = reverse h;
