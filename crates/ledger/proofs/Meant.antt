@@ -26,7 +26,7 @@ use Rattle.ledger.specs.declared.Counts.{Counts}
 use Rattle.ledger.specs.declared.Taken.{Taken}
 use Rattle.ledger.specs.declared.Check.the-variants.{Passes, Fails}
 use Rattle.ledger.specs.Books.{Books, Sized, judgedOf, ledgerOf}
-use Rattle.ledger.specs.Take.{tidy, checked, pushJudged, pushed, place, rowsAfter, settled, answered, booking, takes, outcomeOf, outcome}
+use Rattle.ledger.specs.Take.{tidy, checked, pushJudged, pushed, place, rowsAfter, settled, answered, booking, takes, outcome}
 use Rattle.ledger.proofs.Push.{onto, seens-pushed, judged-pushed}
 
 -- a record's parts do not depend on how it is tidied, and stand before what was there
@@ -136,5 +136,5 @@ module _ (k : Counts) (b : Books) (line : ℕ) (zt : table.Sized (b .table)) (zs
 -- the two promises of a step from the first
 pub as-meant : (k : Counts) (b : Books) (line : ℕ) (e : Record) → table.Sized (b .table) → reading.Sized (b .reads) → Sized (b .verdicts) → (r : Taken) (c : Books)
     → booking r c ≡ takes k b line e
-    → (booking r c ≡ takes k b line e) × (k .seens < 4096 → (isOpen (rowOf (ledgerOf k b .rows) (nameOf e)) ≡ true → k .judged < 512) → outcomeOf r c ≡ meaning.lineStep line (tidy e) (ledgerOf k b))
+    → (booking r c ≡ takes k b line e) × (k .seens < 4096 → (isOpen (rowOf (ledgerOf k b .rows) (nameOf e)) ≡ true → k .judged < 512) → outcome (booking r c) ≡ meaning.lineStep line (tidy e) (ledgerOf k b))
 as-meant k b line e zt zs zv r c h = (h, λ hs hj. ap outcome h ∙ meant k b line zt zs zv hs e hj)

@@ -62,20 +62,29 @@ unfoldable pub pushed : {A : Type 0} → ℕ → ℕ → List A → ℕ
 pushed most n [] = n
 pushed most n (x ∷ xs) = min (suc n) most
 
--- a step: the reply, and the columns after it
+-- the reply in document 01's numbers: a refusal, or how much stands in the columns
+pub data TakeReply : Type 0 where
+  refusedWith : (number : ℕ) → TakeReply
+  counted : Counts → TakeReply
+
+abbrev pub takenReply : Taken → TakeReply
+takenReply (Refused f) = refusedWith (numberOf f)
+takenReply (Went k) = counted k
+
+-- the reply, and the columns after it
 pub record Booking : Type 0 where
-  pub reply : Taken
+  pub reply : TakeReply
   pub books : Books
 
 abbrev pub booking : Taken → Books → Booking
-booking r b = record { reply = r; books = b }
+booking r b = record { reply = takenReply r; books = b }
 
 -- a record that passes: its row changed, its read noted, its commit concluded
 unfoldable pub settled : Counts → Books → ℕ → Record → ℕ → Row → Booking
 settled k b line e number r =
     record {
       reply =
-          Went
+          counted
           (record {
             rows = rowsAfter e (min (k .rows) 512);
             seens = pushed 4096 (min (k .seens) 4096) (noted (ledgerOf k b .rows) e r []);
@@ -91,7 +100,7 @@ settled k b line e number r =
 
 abbrev pub answered : Check → Books → Booking → Booking
 answered Passes b s = s
-answered (Fails f) b s = record { reply = Refused f; books = b }
+answered (Fails f) b s = record { reply = refusedWith (numberOf f); books = b }
 
 unfoldable pub takes : Counts → Books → ℕ → Record → Booking
 takes k b line e =
@@ -99,10 +108,10 @@ takes k b line e =
     let r : Row = subject line e (rowOf (ledgerOf k b .rows) (nameOf e)) in
     answered (checked e (min (k .rows) 512) number r) b (settled k b line e number r)
 
--- what a step comes to in the judge's own terms
-abbrev pub outcomeOf : Taken → Books → Outcome
-outcomeOf (Refused f) b = refused (numberOf f)
-outcomeOf (Went k) b = went (ledgerOf k b)
+-- what it comes to in the judge's own terms
+abbrev pub cameTo : TakeReply → Books → Outcome
+cameTo (refusedWith n) b = refused n
+cameTo (counted k) b = went (ledgerOf k b)
 
 abbrev pub outcome : Booking → Outcome
-outcome s = outcomeOf (s .reply) (s .books)
+outcome s = cameTo (s .reply) (s .books)

@@ -8,7 +8,7 @@ pub mod Lines
 pub mod Fields
 pub mod Counts
 pub mod Chains
-pub mod Mirror
+pub mod Backwards
 pub mod Rules
 pub mod Later
 pub mod Overtaken

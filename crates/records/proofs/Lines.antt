@@ -22,10 +22,6 @@ module _ (p : Record → Bool) where
   unfolding any
   any-past e h n = rw n
 
-  pub any-here : (e : Record) (h : History) → p e ≡ true → any p (e ∷ h) ≡ true
-  unfolding any
-  any-here e h n = rw n
-
   pub line-le : (h : History) → lineWhere p h ≤ length h
   unfolding lineWhere
   line-le [] = omega arith

@@ -1,5 +1,4 @@
--- Histories whose lines were all taken, by what each line did: it started a transaction, or it moved one that is open. And that a history
--- leads to one ledger.
+-- Histories whose lines were all taken, by what each line did: it started a transaction, or it moved one that is open.
 use Prim.Native.Nat.{ℕ, suc}
 use native.Mathlib.Omega.{arith}
 use mathlib.Core.Path.{_≡_, refl, sym, subst}
@@ -13,8 +12,8 @@ use Rattle.records.specs.declared.Record.{Record}
 use Rattle.records.specs.declared.Record.the-variants.{Start}
 use Rattle.records.specs.declared.Row.{Row}
 use Rattle.records.specs.Written.{History}
-use Rattle.records.specs.Ledger.{Ledger, blank, Outcome, refused, went, lineStep, begun, rowOf, become, named, isOpen, freshRow, changed, noted, concluded}
-use Rattle.records.specs.Judge.{Taken, nothing, line, next, after}
+use Rattle.records.specs.Ledger.{Ledger, blank, refused, went, lineStep, begun, rowOf, become, named, isOpen, freshRow, changed, noted, concluded}
+use Rattle.records.specs.Judge.{Taken, nothing, line}
 use Rattle.records.proofs.Parts.{start-is}
 
 abbrev pub begunAt : ℕ → ℕ → Ledger → Ledger
@@ -68,26 +67,3 @@ module _ {h : History} {l : Ledger} (r : Ran h l) (l′ : Ledger) where
 pub ran : {h : History} {l : Ledger} → Taken h l → Ran h l
 ran nothing = bare
 ran (line {r = e} {l′ = m} t q) = one-more (ran t) m e q
-
--- a history leads to one ledger
-pub taken-once : {h : History} {l m : Ledger} → Taken h l → Taken h m → l ≡ m
-taken-once nothing nothing = refl
-taken-once (line {h} {r = e} {l′ = l} t p) (line {l′ = m} u q) = same (taken-once t u) p q
-  where
-    same : {a b : Ledger} → a ≡ b → lineStep (suc (length h)) e a ≡ went l → lineStep (suc (length h)) e b ≡ went m → l ≡ m
-    same z p q = cc
-
--- the function and the relation say the same
-pub taken-after : {h : History} {l : Ledger} → Taken h l → after h ≡ went l
-unfolding after
-taken-after nothing = refl
-taken-after (line t q) = rw (taken-after t) q
-
-pub after-taken : (h : History) (l : Ledger) → after h ≡ went l → Taken h l
-unfolding after
-after-taken [] l e = let z : blank ≡ l = cc in subst (λ (m : Ledger). Taken [] m) z nothing
-after-taken (r ∷ h) l e = go (after h) (after-taken h) e
-  where
-    go : (o : Outcome) → ((m : Ledger) → o ≡ went m → Taken h m) → next (suc (length h)) r o ≡ went l → Taken (r ∷ h) l
-    go (refused k) f e = let z : _≡_ {A = ℕ} 0 1 = cc in absurd (omega arith)
-    go (went m) f e = line (f m refl) e

@@ -88,7 +88,7 @@ open-moves n e l s o =
       ap bit o,
     )
 
-open-rows : {h : History} {l : Ledger} → Ran h l → count isOpen (l .rows) + count commits h + count aborts h ≡ count starts h
+pub open-rows : {h : History} {l : Ledger} → Ran h l → count isOpen (l .rows) + count commits h + count aborts h ≡ count starts h
 unfolding bit
 open-rows bare = omega (arith, count-empty {A = Row} isOpen, count-empty commits, count-empty aborts, count-empty starts)
 open-rows (began {h} {t = t} {l = l} r k) =
@@ -122,12 +122,11 @@ open-counted (moved {h} {e} {l} r s o) small = omega (arith, lowers e (totalsOf 
 
 -- what the totals say of a history
 module _ {h : History} {l : Ledger} (taken : Taken h l) (lines : length h ≤ 4096) where
-  pub totals-right : Counts h l (totalsOf h)
+  pub totals-right : Counts h (totalsOf h)
   totals-right =
       record {
         started = started-counted h (omega arith);
         committed = committed-counted h (omega arith);
         aborted = aborted-counted h (omega arith);
-        «open» = open-counted (ran taken) (omega arith);
-        rest = omega (arith, open-counted (ran taken) (omega arith), open-rows (ran taken));
+        «open» = omega (arith, open-counted (ran taken) (omega arith), open-rows (ran taken));
       }

@@ -7,7 +7,7 @@ use mathlib.Core.Logic.{_↔_, Iff·rfl}
 use mathlib.Core.Bool.{Bool, true, false, cond, not, _&&_, _||_, true≢false}
 use mathlib.Core.List.{[], _∷_, map, reverse}
 use lib.Dec.{T, T-not, eqb, eqb-refl}
-use lib.ListN.{length, length-map}
+use lib.ListN.{length, length-map, length-reverse}
 use borrow.Author.Tests.{eqb-false, eq-eqb}
 use Rattle.lists.specs.Lists.{any, count, filter, Every, none, also}
 use Rattle.lists.specs.Members.{Distinct, empty, apart}
@@ -21,6 +21,7 @@ use Rattle.records.specs.declared.Judged.{Judged}
 use Rattle.records.specs.Written.{History, commitLine, KeepsRC, KeepsBV, KeepsFV, KeepsSV, KeepsWC}
 use Rattle.records.specs.Ledger.{Ledger, rowOf, isOpen, nowhere, first, verdictOn, chain, concluded}
 use Rattle.records.specs.Judge.{Taken, committedIn, Names, Right}
+use Rattle.records.proofs.Backwards.{map-reverse, every-reverse}
 use Rattle.records.proofs.Parts.{commit-is}
 use Rattle.records.proofs.Lines.{line-here}
 use Rattle.records.proofs.Rows.{open-there}
@@ -194,13 +195,13 @@ committed-number (e ∷ h) = go (commits e) (committed-number h)
     go true k = ap suc k
     go false k = k
 
-pub judge-right : {h : History} {l : Ledger} → Taken h l → length h ≤ 4096 → Right h l
+pub judge-right : {h : History} {l : Ledger} → Taken h l → length h ≤ 4096 → Right h (reverse (l .judged))
 judge-right {h} {l} taken lines =
     let r = ran taken in
     record {
-      order = ap reverse (judged-names r);
+      order = map-reverse (λ (j : Judged). j .name) (l .judged) ∙ ap reverse (judged-names r);
       those = committed-any h;
       once = committed-once r (omega arith);
-      number = sym (length-map (l .judged) (λ (j : Judged). j .name)) ∙ ap length (judged-names r) ∙ committed-number h;
-      verdicts = every-map (λ j k. names (k .right)) (judging r (omega arith));
+      number = length-reverse (l .judged) ∙ sym (length-map (l .judged) (λ (j : Judged). j .name)) ∙ ap length (judged-names r) ∙ committed-number h;
+      verdicts = every-reverse (every-map (λ j k. names (k .right)) (judging r (omega arith)));
     }

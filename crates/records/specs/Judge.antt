@@ -12,22 +12,13 @@ use Rattle.records.specs.Parts.{nameOf, commits, isCommit}
 use Rattle.records.specs.declared.Verdict.{Verdict}
 use Rattle.records.specs.declared.Verdict.the-variants.{Ok, RC, BV, FV, SV, WC}
 use Rattle.records.specs.Written.{History, KeepsRC, KeepsBV, KeepsFV, KeepsSV, KeepsWC}
-use Rattle.records.specs.Ledger.{Ledger, Outcome, refused, went, blank, lineStep}
+use Rattle.records.specs.Ledger.{Ledger, went, blank, lineStep}
 use Rattle.records.specs.declared.Judged.{Judged}
 
 -- the ledger after the lines of a history, where none of them is refused
 pub data Taken : History → Ledger → Type 0 where
   nothing : Taken [] blank
   line : {h : History} {r : Record} {l l′ : Ledger} → Taken h l → lineStep (suc (length h)) r l ≡ went l′ → Taken (r ∷ h) l′
-
--- the same as a function: refused at the first line that is
-abbrev pub next : ℕ → Record → Outcome → Outcome
-next n r (refused k) = refused k
-next n r (went l) = lineStep n r l
-
-unfoldable pub after : History → Outcome
-after [] = went blank
-after (r ∷ h) = next (suc (length h)) r (after h)
 
 -- the transactions that committed, the last commit line first
 unfoldable pub committedIn : History → List ℕ
@@ -42,10 +33,11 @@ pub record Names (h : History) (t : ℕ) (v : Verdict) : Type 0 where
   pub sv : (v ≡ SV) ↔ (KeepsRC h t × KeepsBV h t × KeepsFV h t × ¬ KeepsSV h t)
   pub wc : (v ≡ WC) ↔ (KeepsRC h t × KeepsBV h t × KeepsFV h t × KeepsSV h t × ¬ KeepsWC h t)
 
--- the judge is right on a history: it judges those that committed, each once, in order of commit lines, and each as the rules say
-pub record Right (h : History) (l : Ledger) : Type 0 where
-  pub order : reverse (map (λ (j : Judged). j .name) (l .judged)) ≡ reverse (committedIn h)
+-- the judge is right on a history, its verdicts in the order in which they are printed: it judges those that committed, each once, "in order of
+-- commit lines", and each as the rules say
+pub record Right (h : History) (js : List Judged) : Type 0 where
+  pub order : map (λ (j : Judged). j .name) js ≡ reverse (committedIn h)
   pub those : (t : ℕ) → any (λ (n : ℕ). eqb n t) (committedIn h) ≡ any (isCommit t) h
   pub once : Distinct (committedIn h)
-  pub number : length (l .judged) ≡ count commits h
-  pub verdicts : Every (λ (j : Judged). Names h (j .name) (j .verdict)) (l .judged)
+  pub number : length js ≡ count commits h
+  pub verdicts : Every (λ (j : Judged). Names h (j .name) (j .verdict)) js

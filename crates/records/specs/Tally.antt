@@ -6,7 +6,6 @@ use Rattle.lists.specs.Lists.{count}
 use Rattle.records.specs.Parts.{starts, commits, aborts}
 use Rattle.records.specs.declared.Totals.{Totals}
 use Rattle.records.specs.Written.{History}
-use Rattle.records.specs.Ledger.{Ledger, isOpen}
 use Rattle.records.specs.Totals.{noTotals, raised}
 
 -- the totals, raised a line at a time
@@ -15,9 +14,8 @@ totalsOf [] = noTotals
 totalsOf (r ∷ h) = raised r (totalsOf h)
 
 -- "the numbers started, committed, aborted and still open"
-pub record Counts (h : History) (l : Ledger) (n : Totals) : Type 0 where
+pub record Counts (h : History) (n : Totals) : Type 0 where
   pub started : n .started ≡ count starts h
   pub committed : n .committed ≡ count commits h
   pub aborted : n .aborted ≡ count aborts h
-  pub «open» : n .«open» ≡ count isOpen (l .rows)
-  pub rest : n .«open» ≡ count starts h - count commits h - count aborts h
+  pub «open» : n .«open» ≡ count starts h - count commits h - count aborts h

@@ -4,7 +4,7 @@ use native.Mathlib.Numerals.{add-one}
 use native.Mathlib.Omega.{arith}
 use mathlib.Core.Path.{_≡_, refl, sym, ap, _∙_, subst}
 use mathlib.Core.Bool.{Bool, true, false, cond}
-use mathlib.Core.List.{List, [], _∷_, _++_, reverse, reverseAux, reverse-cons, reverse-reverse, append-assoc}
+use mathlib.Core.List.{List, [], _∷_, _++_, reverse, reverse-cons, reverse-reverse, append-assoc}
 use borrow.Author.Tests.{leb-true, leb-false, lt-leb}
 use lib.Dec.{leb}
 use lib.ListN.{length, drop, length-reverse}
@@ -20,12 +20,12 @@ use Rattle.records.specs.Totals.{noTotals, raised}
 use Rattle.records.specs.Tally.{totalsOf}
 use Rattle.records.specs.Judge.{Taken, nothing, line}
 use Rattle.records.specs.Refused.{Unrefused}
+use Rattle.records.proofs.Backwards.{every-reverse}
 use Rattle.records.proofs.Refused.{taken-unrefused, unrefused-taken}
 use Rattle.history.specs.declared.Line.{Line}
 use Rattle.history.specs.declared.Line as read
 use Rattle.history.specs.Line.{lineAt}
-use Rattle.history.specs.Text.{textOf, InForm, Written}
-use Rattle.history.specs.Records.{texts}
+use Rattle.history.specs.Text.{textOf, InForm, Written, texts}
 use Rattle.history.proofs.Reading.{line-exactly, end-exactly}
 use Rattle.verdict.specs.Judge.{Report, concluded, onLine, onOutcome, lines}
 use Rattle.verdict.specs.Judge as said
@@ -49,10 +49,6 @@ pub data Ends (s : List ℕ) : Report → Type 0 where
 texts-newest : (e : Record) (h : History) → texts (reverse (e ∷ h)) ≡ texts (reverse h) ++ textOf e
 texts-newest e h = ap texts (reverse-cons e h) ∙ joined-snoc textOf (reverse h) e
 
-every-onto : {P : Record → Type 0} {l r : List Record} → Every P l → Every P r → Every P (reverseAux l r)
-every-onto none k = k
-every-onto (also h hs) k = every-onto hs (also h k)
-
 module _ (s : List ℕ) where
   passed-stands : {h : History} {at : ℕ} {l : Ledger} → Passed s h at l → Stands (texts (reverse h)) s 0 at
   unfolding joined
@@ -74,7 +70,7 @@ module _ (s : List ℕ) where
   passed-front {h} p few =
       record {
         stands = passed-stands p;
-        form = every-onto (passed-form p) none;
+        form = every-reverse (passed-form p);
         unrefused = subst Unrefused (sym (reverse-reverse h)) (taken-unrefused (passed-taken p) few);
       }
 
@@ -94,7 +90,7 @@ module _ (s : List ℕ) where
 
   pub front-passed : {rs : List Record} {at : ℕ} (f : Front s rs at) (few : length rs ≤ 4096) → Passed s (reverse rs) at (front-taken f few .0)
   front-passed {rs} {at} f few =
-      taken-passed (front-taken f few .1) (every-onto (f .form) none) at (subst (λ (x : List Record). Stands (texts x) s 0 at) (sym (reverse-reverse rs)) (f .stands))
+      taken-passed (front-taken f few .1) (every-reverse (f .form)) at (subst (λ (x : List Record). Stands (texts x) s 0 at) (sym (reverse-reverse rs)) (f .stands))
 
   -- ---- the pass ends so
 

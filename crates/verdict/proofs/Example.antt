@@ -15,8 +15,7 @@ use Rattle.records.specs.declared.Totals.{Totals}
 use Rattle.records.specs.Ledger.{rowOf, become, rowsUpTo, rowsBetween, resolved, chain, verdictOn, changed, noted, concluded, lineStep}
 use Rattle.records.specs.Totals.{noTotals}
 use Rattle.records.specs.Example.{p10Lines, p10Judged, p10Totals}
-use Rattle.history.specs.Text.{textOf}
-use Rattle.history.specs.Records.{texts}
+use Rattle.history.specs.Text.{textOf, texts}
 use Rattle.history.specs.Line.{ended, tuneAt, readAt, writeAt, behindName, lineAt}
 use Rattle.report.specs.Report.{spacedLine, verdictWord, headLine, verdictLine, totalLine, reportText}
 use Rattle.verdict.specs.Judge.{judged, refused, lines, reportOf}

@@ -3,10 +3,10 @@ use Prim.Native.Nat.{ℕ, suc, _≤_, _<_}
 use native.Mathlib.Omega.{arith}
 use mathlib.Core.Path.{_≡_, refl, _∙_}
 use mathlib.Core.Bool.{Bool, true, false, cond}
-use mathlib.Core.List.{List, _∷_}
+use mathlib.Core.List.{List, _∷_, reverse}
 use borrow.Author.Tests.{leb-false, ltb-true}
 use lib.Dec.{leb}
-use lib.ListN.{length}
+use lib.ListN.{length, length-reverse}
 use Rattle.lists.specs.Lists.{any, count}
 use Rattle.lists.proofs.Count.{any-count}
 use Rattle.records.specs.Parts.{nameOf}
@@ -16,13 +16,12 @@ use Rattle.records.specs.declared.Row.{Row}
 use Rattle.records.specs.declared.Seen.{Seen}
 use Rattle.records.specs.Written.{History}
 use Rattle.records.specs.Ledger.{Ledger, refused, went, named, rowOf, isOpen, isRecorded, changed, noted, lineStep}
-use Rattle.records.specs.Tally.{totalsOf, Counts}
 use Rattle.records.specs.Judge.{Taken, nothing, line, Right}
 use Rattle.records.proofs.Rows.{open-there, any-row, become-length}
 use Rattle.records.proofs.Runs.{Ran, bare, began, moved, movedAt, begunAt, ran}
 use Rattle.records.proofs.Refused.{rows-counted}
 use Rattle.records.proofs.Verdicts.{judge-right}
-use Rattle.records.proofs.Tallies.{totals-right}
+use Rattle.records.proofs.Tallies.{open-rows}
 
 -- ---- "512 transactions": a start past them is refused
 
@@ -85,6 +84,5 @@ open-some rs t o = ltb-true 0 (count isOpen rs) (any-count isOpen rs (count isOp
 
 pub judged-room : {h : History} {l : Ledger} → Taken h l → length h ≤ 4096 → (t : ℕ) → isOpen (rowOf (l .rows) t) ≡ true → length (l .judged) < 512
 judged-room {h} {l} taken few t o =
-    let r : Right h l = judge-right taken few in
-    let n : Counts h l (totalsOf h) = totals-right taken few in
-    omega (arith, r .number, n .«open», n .rest, open-some (l .rows) t o, rows-counted (ran taken), rows-most taken)
+    let r : Right h (reverse (l .judged)) = judge-right taken few in
+    omega (arith, r .number, length-reverse (l .judged), open-rows (ran taken), open-some (l .rows) t o, rows-counted (ran taken), rows-most taken)

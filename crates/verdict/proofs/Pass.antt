@@ -29,7 +29,7 @@ use Rattle.trial.proofs.Chain.{seens-length}
 use Rattle.ledger.specs.declared.Counts.{Counts}
 use Rattle.ledger.specs.declared.Taken as took
 use Rattle.ledger.specs.Books.{Books, Verdicts, judgedOf, ledgerOf}
-use Rattle.ledger.specs.Take.{tidy, outcomeOf}
+use Rattle.ledger.specs.Take.{tidy, booking, outcome}
 use Rattle.verdict.specs.Judge.{Report, judged, concluded, onLine, onOutcome, lines}
 use Rattle.verdict.specs.Judge as said
 use Rattle.verdict.proofs.Limits.{seens-most, judged-room}
@@ -136,12 +136,12 @@ module _ {s : List ℕ} {at n : ℕ} {l : Ledger} {t : Totals} {answer : Report}
 -- what the step on the columns answered
 module _ (s : List ℕ) (at next n : ℕ) (e : Record) (k : Counts) (b : Books) {t : Totals} {answer : Report} (left : Left s at n (ledgerOf k b) t answer) (few : n ≤ 4096)
     (there : lineAt s at ≡ read.the-variants.Taken e next) (r : took.Taken) (c : Books)
-    (meant : k .seens < 4096 → (isOpen (rowOf (ledgerOf k b .rows) (nameOf e)) ≡ true → k .judged < 512) → outcomeOf r c ≡ lineStep n (tidy e) (ledgerOf k b)) where
-  stepped : outcomeOf r c ≡ lineStep n e (ledgerOf k b)
+    (meant : k .seens < 4096 → (isOpen (rowOf (ledgerOf k b .rows) (nameOf e)) ≡ true → k .judged < 512) → outcome (booking r c) ≡ lineStep n (tidy e) (ledgerOf k b)) where
+  stepped : outcome (booking r c) ≡ lineStep n e (ledgerOf k b)
   stepped = steps s at next n e k b few (left .reached) there meant
 
   pub line-refused : {f : Refusal} → r ≡ took.the-variants.Refused f → said.refused (numberOf f) n ≡ answer
-  line-refused q = at-refused left few there (ap (λ (x : took.Taken). outcomeOf x c) (sym q) ∙ stepped)
+  line-refused q = at-refused left few there (ap (λ (x : took.Taken). outcome (booking x c)) (sym q) ∙ stepped)
 
   pub line-went : {k′ : Counts} {t′ : Totals} → r ≡ took.the-variants.Went k′ → t′ ≡ raised e t → Left s next (n + 1) (ledgerOf k′ c) t′ answer
-  line-went {k′} {t′} q h = rw h (at-went left few there (ap (λ (x : took.Taken). outcomeOf x c) (sym q) ∙ stepped))
+  line-went {k′} {t′} q h = rw h (at-went left few there (ap (λ (x : took.Taken). outcome (booking x c)) (sym q) ∙ stepped))

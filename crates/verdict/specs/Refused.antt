@@ -8,8 +8,7 @@ use Rattle.lists.specs.Lists.{Every}
 use Rattle.decimal.specs.Read.{Stands}
 use Rattle.records.specs.declared.Record.{Record}
 use Rattle.records.specs.Refused.{refusalIn, Unrefused}
-use Rattle.history.specs.Text.{InForm, Written}
-use Rattle.history.specs.Records.{texts}
+use Rattle.history.specs.Text.{InForm, Written, texts}
 
 -- the text begins with the texts of these records, up to a place; each is of the form, and none is refused: each is taken after those before it
 pub record Front (s : List ℕ) (rs : List Record) (at : ℕ) : Type 0 where
