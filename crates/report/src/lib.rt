@@ -6,7 +6,7 @@ ghost use lib.ListN.{length};
 ghost use Rattle.decimal.specs.Text.{decimal};
 ghost use Rattle.decimal.specs.Write.{put, Puts};
 ghost use Rattle.records.specs.Order.{verdictFrom};
-ghost use Rattle.report.specs.Report.{verdictWord, judged, judgedList, headLine, verdictLine, verdictLines, totalLine, reportText, refusedText};
+ghost use Rattle.report.specs.Report.{verdictWord, judgedWith, judgedList, headLine, verdictLine, verdictLines, totalLine, reportText, refusedText};
 ghost use Rattle.report.specs.Write.{writtenReply, writtenAs};
 use decimal::NEWLINE;
 use decimal::Put;
@@ -135,7 +135,7 @@ fn put_verdicts(
 
 fn put_verdict(text: &mut [u8], at: usize, name: u32, code: u8) -> usize
     requires { ⌜ at + 14 ≤ length (now text) ⌝ }
-    ensures { λ r. ⌜ (Puts (now (text .entry)) (now (text .exit)) at (verdictLine (judged name code)) r) × (r ≤ at + 14) ⌝ }
+    ensures { λ r. ⌜ (Puts (now (text .entry)) (now (text .exit)) at (verdictLine (judgedWith name code)) r) × (r ≤ at + 14) ⌝ }
 {
     let a = put_number(text, at, name, SPACE);
     let word = word_of(code);

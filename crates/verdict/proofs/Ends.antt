@@ -27,7 +27,7 @@ use Rattle.history.specs.declared.Line as read
 use Rattle.history.specs.Line.{lineAt}
 use Rattle.history.specs.Text.{textOf, InForm, Written, texts}
 use Rattle.history.proofs.Reading.{line-exactly, end-exactly}
-use Rattle.verdict.specs.Judge.{Report, concluded, onLine, onOutcome, lines}
+use Rattle.verdict.specs.Judge.{Report, reportOn, onLine, onOutcome, lines}
 use Rattle.verdict.specs.Judge as said
 use Rattle.verdict.specs.Refused.{Front}
 
@@ -38,7 +38,7 @@ pub data Passed (s : List ℕ) : History → ℕ → Ledger → Type 0 where
 
 -- the pass came to an end with this report
 pub data Ends (s : List ℕ) : Report → Type 0 where
-  done : {h : History} {at : ℕ} {l : Ledger} → Passed s h at l → length h ≤ 4096 → length s ≤ at → Ends s (concluded l (totalsOf h))
+  done : {h : History} {at : ℕ} {l : Ledger} → Passed s h at l → length h ≤ 4096 → length s ≤ at → Ends s (reportOn l (totalsOf h))
   over : {h : History} {at : ℕ} {l : Ledger} → Passed s h at l → length h ≡ 4096 → at < length s → Ends s (said.refused 14 (suc (length h)))
   unread : {h : History} {at : ℕ} {l : Ledger} → Passed s h at l → length h < 4096 → lineAt s at ≡ read.the-variants.Bad → Ends s (said.refused 13 (suc (length h)))
   stopped : {h : History} {at next : ℕ} {e : Record} {l : Ledger} {n : ℕ} → Passed s h at l → length h < 4096 → Written s at e next → lineStep (suc (length h)) e l ≡ refused n
@@ -98,7 +98,7 @@ module _ (s : List ℕ) where
   unfolding lines totalsOf
   ends-from zero {h} {at} {l} few p = go (leb (length s) at) refl
     where
-      go : (b : Bool) → leb (length s) at ≡ b → Ends s (cond b (concluded l (totalsOf h)) (said.refused 14 (suc (length h))))
+      go : (b : Bool) → leb (length s) at ≡ b → Ends s (cond b (reportOn l (totalsOf h)) (said.refused 14 (suc (length h))))
       go true e = done p (omega arith) (leb-true (length s) at e)
       go false e = over p (omega arith) (leb-false (length s) at e)
   ends-from (suc left) {h} {at} {l} few p =
@@ -112,7 +112,7 @@ module _ (s : List ℕ) where
 
       go : (x : Line) → lineAt s at ≡ x
           → ((e : Record) (next : ℕ) (m : Ledger) → Written s at e next → lineStep (suc (length h)) e l ≡ went m → Ends s (lines left s next (suc (length h) + 1) m (raised e (totalsOf h))))
-          → Ends s (onLine x (concluded l (totalsOf h)) (λ e next. onOutcome (lineStep (suc (length h)) e l) (λ m. lines left s next (suc (length h) + 1) m (raised e (totalsOf h))) (suc (length h))) (suc (length h)))
+          → Ends s (onLine x (reportOn l (totalsOf h)) (λ e next. onOutcome (lineStep (suc (length h)) e l) (λ m. lines left s next (suc (length h) + 1) m (raised e (totalsOf h))) (suc (length h))) (suc (length h)))
       go (read.the-variants.Taken e next) q f =
           let w : Written s at e next = line-exactly s at e next .0 q in
           step-on e next (lineStep (suc (length h)) e l) refl w (λ m. f e next m w)

@@ -30,7 +30,7 @@ use Rattle.ledger.specs.declared.Counts.{Counts}
 use Rattle.ledger.specs.declared.Taken as took
 use Rattle.ledger.specs.Books.{Books, Verdicts, judgedOf, ledgerOf}
 use Rattle.ledger.specs.Take.{tidy, booking, outcome}
-use Rattle.verdict.specs.Judge.{Report, judged, concluded, onLine, onOutcome, lines}
+use Rattle.verdict.specs.Judge.{Report, judged, reportOn, onLine, onOutcome, lines}
 use Rattle.verdict.specs.Judge as said
 use Rattle.verdict.proofs.Limits.{seens-most, judged-room}
 
@@ -96,7 +96,7 @@ left-first s e = rw e (record { least = omega arith; most = omega arith; rest = 
 
 module _ {s : List ℕ} {at n : ℕ} {l : Ledger} {t : Totals} {answer : Report} (left : Left s at n l t answer) where
   module _ (few : n ≤ 4096) where
-    opened : onLine (lineAt s at) (concluded l t) (λ e next. onOutcome (lineStep n e l) (λ l′. lines (4096 - n) s next (n + 1) l′ (raised e t)) n) n ≡ answer
+    opened : onLine (lineAt s at) (reportOn l t) (λ e next. onOutcome (lineStep n e l) (λ l′. lines (4096 - n) s next (n + 1) l′ (raised e t)) n) n ≡ answer
     unfolding lines
     opened =
         let e : 4097 - n ≡ suc (4096 - n) = omega arith in
@@ -105,7 +105,7 @@ module _ {s : List ℕ} {at n : ℕ} {l : Ledger} {t : Totals} {answer : Report}
     pub at-bad : lineAt s at ≡ read.the-variants.Bad → said.refused 13 n ≡ answer
     at-bad q = rw q at opened
 
-    pub at-end : lineAt s at ≡ read.the-variants.End → concluded l t ≡ answer
+    pub at-end : lineAt s at ≡ read.the-variants.End → reportOn l t ≡ answer
     at-end q = rw q at opened
 
     module _ {e : Record} {next : ℕ} (there : lineAt s at ≡ read.the-variants.Taken e next) where
@@ -121,7 +121,7 @@ module _ {s : List ℕ} {at n : ℕ} {l : Ledger} {t : Totals} {answer : Report}
           record { least = omega arith; most = omega arith; rest = rw d (rw (← q) at taken); reached = reached-more e l′ (left .reached) (sym q) }
 
   module _ (many : 4096 < n) where
-    over : cond (leb (length s) at) (concluded l t) (said.refused 14 n) ≡ answer
+    over : cond (leb (length s) at) (reportOn l t) (said.refused 14 n) ≡ answer
     unfolding lines
     over =
         let e : 4097 - n ≡ 0 = omega (arith, left .most) in
@@ -130,7 +130,7 @@ module _ {s : List ℕ} {at n : ℕ} {l : Ledger} {t : Totals} {answer : Report}
     pub over-more : at < length s → said.refused 14 n ≡ answer
     over-more h = rw (lt-leb (length s) at h) at over
 
-    pub over-done : length s ≤ at → concluded l t ≡ answer
+    pub over-done : length s ≤ at → reportOn l t ≡ answer
     over-done h = rw (le-leb (length s) at h) at over
 
 -- what the step on the columns answered
