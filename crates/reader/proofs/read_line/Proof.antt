@@ -43,7 +43,7 @@ use denote.Triple.Table.{entered, cited}
 use denote.Triple.Walked.{says, Stays, stay-none, walkOf, goes-none, Walks, ends-at, walked, walk-meets}
 use denote.Exit.{yes}
 use denote.Triple.Clauses.{ensured, lasts}
-use Rattle.history.specs.Line.{lineAt}
+use Rattle.history.specs.Line.{LineReply, lineReply, lineSaid}
 use Rattle.history.specs.declared.Line.{Line}
 use Rattle.history.proofs.Line as L
 use Rattle.history.proofs.Line.Laws as L′
@@ -79,8 +79,8 @@ module _ {M : Type 1} (𝓤 : URA M) (H : Heap 𝓤) (A : Atoms 𝓤) (W : Given
   abbrev v : Val
   v = sliceVal (d .text .ptr) (length (d .text .now))
 
-  abbrev found : Line
-  found = lineAt (now (d .text)) (d .at)
+  abbrev found : LineReply
+  found = lineSaid (now (d .text)) (d .at)
 
   abbrev Post : Val → SProp 𝓤
   Post = walkOf 𝓤 H A f.ended stayed (f.clauses 𝓤 H A at-mem run) .post (((κ, tt), (q, tt), tt, (d, tt), (mach ∷ [], tt)), tt)
@@ -120,10 +120,10 @@ module _ {M : Type 1} (𝓤 : URA M) (H : Heap 𝓤) (A : Atoms 𝓤) (W : Given
       move ! (2 ∷ 0 ∷ []) $ use2 W (raw (LineFrom 𝓤 H A at-mem run .pre to-callee)) asked $ frame ! $ done !)
 
   -- of the callee's `ensured`, the clause alone: it has no `&mut`, so what is said of last values is dropped
-  told : (r : Line) → ent 𝓤 (ensured 𝓤 H A line-from.ended (line-from.clauses 𝓤 H A at-mem run) (κ, tt) (d .text, (d .at, tt)) tt r) (fact 𝓤 (r ≡ found))
-  told r = exE 𝓤 _ (λ ws. snd∗ 𝓤 (sem 𝓤 H A (lasts line-from.ended (κ, tt) (d .text, (d .at, tt)) ws)) (fact 𝓤 (r ≡ found)))
+  told : (r : Line) → ent 𝓤 (ensured 𝓤 H A line-from.ended (line-from.clauses 𝓤 H A at-mem run) (κ, tt) (d .text, (d .at, tt)) tt r) (fact 𝓤 (lineReply r ≡ found))
+  told r = exE 𝓤 _ (λ ws. snd∗ 𝓤 (sem 𝓤 H A (lasts line-from.ended (κ, tt) (d .text, (d .at, tt)) ws)) (fact 𝓤 (lineReply r ≡ found)))
 
-  exits : (r : Line) (u : Val) → r ≡ found → ent 𝓤 (⋆ 𝓤 H A (‵ (L.the-row .own r (u ∷ [])) ∷ (‵ (flft κ q) ⊛ ‵ ftrue) ∷ ‵ Own ∷ [])) (Post u)
+  exits : (r : Line) (u : Val) → lineReply r ≡ found → ent 𝓤 (⋆ 𝓤 H A (‵ (L.the-row .own r (u ∷ [])) ∷ (‵ (flft κ q) ⊛ ‵ ftrue) ∷ ‵ Own ∷ [])) (Post u)
   exits r u e =
       qed W (‵ (L.the-row .own r (u ∷ [])) ∷ (‵ (flft κ q) ⊛ ‵ ftrue) ∷ ‵ Own ∷ []) ∵
       suffices ! _ (ends-at 𝓤 H A f.ended stayed (f.clauses 𝓤 H A at-mem run) W (((κ, tt), (q, tt), tt, (d, tt), (mach ∷ [], tt)), tt) u r (tt, tt) (tt, tt)) $ says ! e $
@@ -139,7 +139,7 @@ module _ {M : Type 1} (𝓤 : URA M) (H : Heap 𝓤) (A : Atoms 𝓤) (W : Given
         move ! (8 ∷ []) $ use1 W (raw (LineFrom 𝓤 H A at-mem run .pre to-callee) ⊛ ‵ Own) (apart (wt .1 .1 .0 .fits)) $ split ! $
         calls-at ! fm (LineFrom 𝓤 H A at-mem run) known to-callee (and-then ! (load ! (from ! (stop !)) (look ! 4 refl)) (and-then ! (load ! (from ! (stop !)) (look ! 2 refl)) (no-more !))) (λ u.
         use1 W (later (some (λ (r : Line). ((‵ (flft κ q) ⊛ ‵ ftrue) ⊛ ‵ (L.the-row .own r (u ∷ []))) ⊛ raw (ensured 𝓤 H A line-from.ended (line-from.clauses 𝓤 H A at-mem run) (κ, tt) (d .text, (d .at, tt)) tt r)))) (id⊢ 𝓤 _) $ await ! tt $ pick ! (λ r.
-        split ! $ move ! (1 ∷ []) $ use1 W (raw (fact 𝓤 (r ≡ found))) (told r) $ heard ! (r ≡ found) (λ e. split ! $ move ! (1 ∷ []) $
+        split ! $ move ! (1 ∷ []) $ use1 W (raw (fact 𝓤 (lineReply r ≡ found))) (told r) $ heard ! (lineReply r ≡ found) (λ e. split ! $ move ! (1 ∷ []) $
         -- [the result; the token; what the struct owns; _3; …; _2; …; _1; …; room for _0; …]
         peeks ! L.the-row (Is L.the-row) (shows 𝓤 H A L.the-row) r (u ∷ []) (λ is.
         land ! (from ! (stop !)) (init ! 9 refl (EL.lawful L.the-type L′.the-laws 𝓤 H A W tt .typed r _ is .0)) $
