@@ -13,6 +13,7 @@ pub mod Rules
 pub mod Later
 pub mod Overtaken
 pub mod Verdicts
+pub mod Open
 pub mod Tallies
 pub mod Table
 pub mod Refused

@@ -21,6 +21,7 @@ use Rattle.records.specs.Judge.{Taken}
 use Rattle.records.proofs.Rows.{open-there, become-count}
 use Rattle.records.proofs.Runs.{Ran, bare, began, moved, movedAt, ran}
 use Rattle.records.proofs.Fields.{read-keeps}
+use Rattle.records.proofs.Open.{open-rest}
 
 -- a total that each record of one kind raises
 module _ (f : Totals → ℕ) (p : Record → Bool) (zero-first : f noTotals ≡ 0) (raises : (e : Record) (n : Totals) → f (raised e n) ≡ cond (p e) (more (f n)) (f n)) where
@@ -128,5 +129,5 @@ module _ {h : History} {l : Ledger} (taken : Taken h l) (lines : length h ≤ 40
         started = started-counted h (omega arith);
         committed = committed-counted h (omega arith);
         aborted = aborted-counted h (omega arith);
-        «open» = omega (arith, open-counted (ran taken) (omega arith), open-rows (ran taken));
+        «open» = omega (arith, open-counted (ran taken) (omega arith), open-rows (ran taken), open-rest (ran taken) (omega arith));
       }
