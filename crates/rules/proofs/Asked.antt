@@ -10,9 +10,9 @@ use Rattle.units.specs.declared.Stamp.{Stamp}
 use Rattle.transaction.specs.declared.Mark.{Mark}
 use Rattle.transaction.specs.declared.Transaction.{Transaction}
 use Rattle.model.specs.Log.{Entry, upTo, between, changedAfter}
-use Rattle.model.specs.Rules.{distance}
+use Rattle.model.specs.Rules.{distance, stale, early}
 use Rattle.rules.specs.declared.Test.{Test}
-use Rattle.rules.specs.declared.Test.the-variants.{Stale, Early, Torn, Apart}
+use Rattle.rules.specs.declared.Test.the-variants.{Torn, Apart}
 use Rattle.rules.specs.Tests.{fails}
 
 -- a distance, from the two counts
@@ -21,16 +21,16 @@ pub by-counts : (log : List Entry) (s : ℕ) (x : Mark) {d : ℤ} (m n : ℕ) �
 unfolding distance
 by-counts log s x m n e f g = e ∙ ap (λ (k : ℕ). pos k -ℤ pos n) f ∙ ap (λ (k : ℕ). pos (upTo log (x .key) s) -ℤ pos k) g
 
--- each test, from what the code asks
+-- BV's and FV's test of a read, from the one distance
+module _ (log : List Entry) (t : Transaction) (x y : Mark) (read : y ≡ x) (d : ℤ) (measured : d ≡ distance log (t .name .0) y) where
+  pub is-stale : {r u : Bool} → r ≡ not (ltZ d (pos (t .bounds .k1))) → r ≡ u → stale log t x ≡ u
+  is-stale e f = rw (← read, ← measured) (sym e ∙ f)
+
+  pub is-early : {r : Bool} → r ≡ not (leZ (negℤ d) (pos (t .bounds .k2))) → r ≡ early log t x
+  is-early e = e ∙ rw (measured, read)
+
+-- SV's tests, from what the code asks
 module _ (log : List Entry) (t : Transaction) (x : Mark) (test : Test) where
-  pub is-stale : {r : Bool} (d : ℤ) → test ≡ Stale → r ≡ not (ltZ d (pos (t .bounds .k1))) → d ≡ distance log (t .name .0) x → r ≡ fails test log t x
-  unfolding fails
-  is-stale d e f g = f ∙ rw (e, g)
-
-  pub is-early : {r : Bool} (d : ℤ) → test ≡ Early → r ≡ not (leZ (negℤ d) (pos (t .bounds .k2))) → d ≡ distance log (t .name .0) x → r ≡ fails test log t x
-  unfolding fails
-  is-early d e f g = f ∙ rw (e, g)
-
   pub is-torn : {k n : ℕ} (last : Stamp) → test ≡ Torn last → k ≡ t .bounds .k3 → n ≡ between log (x .key) (x .stamp .0) (last .0) → ltb k n ≡ fails test log t x
   unfolding fails
   is-torn last e f g = rw (e, f, g)

@@ -1,9 +1,10 @@
-// The rules of RVSI for a transaction, against the log's lent columns: BV, FV, SV, WC in document 01's order, the first that is
-// broken and its place. A count of reads or writes past 16 counts as 16.
+// The rules of RVSI for a transaction, against the log of the master's memory: BV, FV, SV, WC in document 01's order, the first
+// that is broken and its place. A count of reads or writes past 16 counts as 16.
 ghost use Prim.Native.Nat.{ℕ, max};
 ghost use mathlib.Core.Path.{_≡_};
-ghost use mathlib.Core.Bool.{not};
+ghost use mathlib.Core.Bool.{not, cond};
 ghost use mathlib.Core.List.{List};
+ghost use lib.Dec.{ltb};
 ghost use lib.IntN.{ℤ, pos, negℤ, _-ℤ_};
 ghost use lib.ListN.{getD};
 ghost use lib.Signed.{ltZ, leZ};
@@ -11,7 +12,7 @@ ghost use Rattle.lists.specs.Lists.{find};
 ghost use Rattle.transaction.specs.Transaction.{readsOf, writesOf, noWrite};
 ghost use Rattle.model.specs.Rules.{distance, overtaken, certified};
 ghost use Rattle.memory.specs.Memory.{logOf};
-ghost use Rattle.rules.specs.Tests.{fails, latest};
+ghost use Rattle.rules.specs.Tests.{outside, fails, latest};
 use counts::changed_after;
 use counts::count_between;
 use counts::count_up_to;
@@ -23,11 +24,9 @@ use units::Rule;
 use units::Stamp;
 use units::limits;
 
-// What is asked of a recorded read. `Torn` is SV's question for x against every y at once: a count between two stamps grows
-// with the later one, so the latest stamp read answers for all. `Apart` is SV's question for y, of the x that it holds.
+// What SV asks of a recorded read. `Torn` is its question for x against every y at once: a count between two stamps grows
+// with the later one, so the latest stamp read answers for all. `Apart` is its question for y, of the x that it holds.
 enum Test {
-    Stale,
-    Early,
     Torn(Stamp),
     Apart(Mark),
 }
@@ -45,25 +44,54 @@ pub fn distance_of(memory: &[u32; WORDS], start: Stamp, read: Mark) -> i64
 pub fn certify(memory: &[u32; WORDS], t: Transaction) -> Certified
     ensures { λ r. ⌜ r ≡ certified (logOf (now (memory .entry))) t ⌝ }
 {
-    let reads = t.reads_in();
-    let stale = first(Test::Stale, memory, t);
-    if stale < reads {
-        return Certified::Broken(Rule::BV(stale));
+    match first_outside(memory, t) {
+        Certified::Broken(rule) => Certified::Broken(rule),
+        Certified::Whole => {
+            let x = first(Test::Torn(latest(t)), memory, t);
+            if x < t.reads_in() {
+                let y = first(Test::Apart(t.read_at(x)), memory, t);
+                return Certified::Broken(Rule::SV(x, y));
+            }
+            let overtaken = first_overtaken(memory, t);
+            if overtaken < t.writes_in() {
+                return Certified::Broken(Rule::WC(overtaken));
+            }
+            Certified::Whole
+        }
     }
-    let early = first(Test::Early, memory, t);
-    if early < reads {
+}
+
+// BV and FV of all reads, with one distance for each: a stale read is the answer at once, whatever was early before it, and the
+// first early one is the answer where none is stale.
+fn first_outside(memory: &[u32; WORDS], t: Transaction) -> Certified
+    ensures { λ r. ⌜ r ≡ outside (logOf (now (memory .entry))) t ⌝ }
+{
+    let b = t.bounds;
+    let end = t.reads_in();
+    let mut early = end;
+    let mut i = 0;
+    while i < end {
+        let d = distance_of(memory, t.name, t.read_at(i));
+        if is_stale(d, b.k1) {
+            return Certified::Broken(Rule::BV(i));
+        }
+        early = earlier(early, end, i, is_early(d, b.k2));
+        i += 1;
+    }
+    if early < end {
         return Certified::Broken(Rule::FV(early));
     }
-    let x = first(Test::Torn(latest(t)), memory, t);
-    if x < reads {
-        let y = first(Test::Apart(t.read_at(x)), memory, t);
-        return Certified::Broken(Rule::SV(x, y));
-    }
-    let overtaken = first_overtaken(memory, t);
-    if overtaken < t.writes_in() {
-        return Certified::Broken(Rule::WC(overtaken));
-    }
     Certified::Whole
+}
+
+// The first place of a search that goes on behind it: what was found before stays.
+fn earlier(found: usize, end: usize, i: usize, hit: bool) -> usize
+    ensures { λ r. ⌜ r ≡ cond (ltb found end) found (cond hit i found) ⌝ }
+{
+    if found < end {
+        return found;
+    }
+    if hit { i } else { found }
 }
 
 // The written key at a place, or 0.
@@ -111,14 +139,6 @@ fn fails(test: Test, memory: &[u32; WORDS], t: Transaction, read: Mark) -> bool
 {
     let b = t.bounds;
     match test {
-        Test::Stale => {
-            let d = distance_of(memory, t.name, read);
-            is_stale(d, b.k1)
-        }
-        Test::Early => {
-            let d = distance_of(memory, t.name, read);
-            is_early(d, b.k2)
-        }
         Test::Torn(last) => {
             let n = count_between(memory, read.key, read.stamp, last);
             wide(b.k3) < n
