@@ -1,15 +1,14 @@
 -- What each call of the desk decides and changes, from what the calls below it say.
-use Prim.Native.Nat.{ℕ, suc, _+_, _≤_, _<_}
+use Prim.Native.Nat.{ℕ, _+_, _≤_, _<_}
 use native.Mathlib.Omega.{arith}
 use native.Mathlib.Numerals.{add-one}
-use mathlib.Core.Path.{_≡_, refl, sym, _∙_, ap}
+use mathlib.Core.Path.{_≡_, refl, sym, _∙_}
 use mathlib.Core.Bool.{Bool, true, false, not, _&&_, cond}
 use mathlib.Core.List.{List}
-use borrow.Author.Tests.{le-leb, lt-leb, lt-ltb, le-ltb, eq-eqb, ne-eqb, leb-true, leb-false, ltb-true, ltb-false}
-use lib.Dec.{leb, ltb, eqb}
+use borrow.Author.Tests.{le-leb, lt-leb, lt-ltb, le-ltb, eq-eqb, ne-eqb}
+use lib.Dec.{eqb}
 use lib.IntN.{ℤ}
-use lib.ListN.{length, getD, set}
-use Rattle.transaction.specs.declared.Transaction.{Transaction}
+use lib.ListN.{getD, set}
 use Rattle.units.specs.Refusal.{numberOf}
 use Rattle.units.specs.Bounds as triples
 use Rattle.units.specs.Bounds.{triple, bounded, tripleReply}
@@ -18,14 +17,12 @@ use Rattle.units.specs.declared.Triple.{Triple}
 use Rattle.units.specs.declared.Triple.the-variants.{Taken, Refused}
 use Rattle.units.specs.declared.refusal.Refusal.{Refusal}
 use Rattle.transaction.specs.Transaction.{fresh, ended, tuned, written, wroteAt}
-use Rattle.model.specs.State.{goesBy, noTransaction, placeOf, freePlace, transaction, withTransaction}
-use Rattle.memory.specs.Memory.{baseOf, loaded, stored, placesOf, logOf, stateOf}
+use Rattle.model.specs.State.{goesBy, noTransaction, freePlace}
+use Rattle.memory.specs.Memory.{baseOf, loaded, stored, placesOf, stateOf}
 use Rattle.model.specs.Call.{Call, Start, Read, Note, Write, Tune, Distance, Abort, Commit, Message, Newest, refused, started, done}
-use Rattle.model.specs.Step.{Step, step, checksOf, finalOf, order, starts}
-use Rattle.words.specs.After.{at, closed, change, after, cleared, onStarted, onVersion, onDone, onCommit}
-use mir.Syntax.{w32}
-use mir.Val.{SFits}
-use Rattle.memory.proofs.Laws.{places-length, places-at, places-stored, state-stored, state-clock, log-stored, length-stored, good-loaded, good-written, good-fresh}
+use Rattle.model.specs.Step.{step, checksOf, finalOf, order}
+use Rattle.words.specs.After.{at, closed, change, after, cleared}
+use Rattle.memory.proofs.Laws.{places-at}
 
 module _ (ws : List ℕ) (i b : ℕ) (h : i < 32) (e : b ≡ baseOf i) where
   pub goes-at : (n : ℕ) (r : Bool) → r ≡ (not (eqb (getD ws (b + 1) 0) 0) && eqb (getD ws b 0) n) → goesBy n (getD (placesOf ws) i noTransaction) ≡ r

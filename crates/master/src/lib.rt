@@ -1,20 +1,28 @@
-// The calls of the master that look at versions, over the log's four lent columns: read, note, distance, commit, the versions that a
-// commit made, the stamp of a key's newest version.
+// The calls of the master that look at versions, over its lent memory: read, note, distance, commit, the versions that a commit made, the
+// stamp of a key's newest version. Each call that changes something decides first, looking only, and then changes.
+ghost use Prim.Native.Nat.{_+_};
 ghost use mathlib.Core.Path.{_≡_};
-ghost use lib.ListN as lists;
-ghost use Rattle.transaction.specs.Transaction.{recorded, ended};
-ghost use Rattle.model.specs.Log.{Entry, madeAt};
-ghost use Rattle.model.specs.State.{transaction};
+ghost use lib.Dec.{leb};
+ghost use lib.ListN.{set};
+ghost use Rattle.transaction.specs.Transaction.{recorded, writesOf};
+ghost use Rattle.model.specs.Log.{madeAt};
+ghost use Rattle.model.specs.State.{placeOf};
 ghost use Rattle.model.specs.Step.{step, marked};
 ghost use Rattle.model.specs.Call.{Read, Note, Distance, Commit, Message, Newest};
-ghost use Rattle.desk.specs.Desk.{stateOf, stepped, withPlace};
+ghost use Rattle.memory.specs.Memory.{logOf, placesOf, stateOf, loaded, stored};
+ghost use Rattle.words.specs.Installed.{installed};
+ghost use Rattle.words.specs.After.{closed, after};
 ghost use Rattle.versions.specs.Batch.{batchOf};
-ghost use Rattle.master.specs.Master.{logAt, readReply, distanceReply, commitReply, madeReply, newestReply, columnAfter, lengthAfter};
-use columns::in_use;
-use desk::Master;
+ghost use Rattle.master.specs.Master.{readReply, distanceReply, commitReply, madeReply, newestReply};
+use counts::length_of;
+use desk::change_end;
+use desk::place_of;
+use memory::CLOCK;
+use memory::WORDS;
+use memory::load;
+use memory::store;
 use transaction::Mark;
 use transaction::Pending;
-use transaction::Transaction;
 use units::Batch;
 use units::Certified;
 use units::Found;
@@ -32,9 +40,10 @@ pub enum ReadAnswer {
     Refused(Refusal),
 }
 
-pub struct Looked {
+// What read or note would answer, and the transaction's place.
+pub struct Looking {
     pub answer: ReadAnswer,
-    pub master: Master,
+    pub place: usize,
 }
 
 pub enum DistanceAnswer {
@@ -49,9 +58,10 @@ pub enum CommitAnswer {
     Refused(Refusal),
 }
 
-pub struct Ended {
+// What commit would answer, and the transaction's place.
+pub struct Ending {
     pub answer: CommitAnswer,
-    pub master: Master,
+    pub place: usize,
 }
 
 pub enum MadeAnswer {
@@ -60,7 +70,7 @@ pub enum MadeAnswer {
 }
 
 // The versions that a commit made; none where it is refused.
-pub struct Sent {
+pub struct Making {
     pub answer: MadeAnswer,
     pub batch: Batch,
 }
@@ -70,254 +80,247 @@ pub enum NewestAnswer {
     Refused(Refusal),
 }
 
-// A read at the master answers the key's newest version and records it, or the own pending value and records nothing.
-pub fn read(
-    keys: &[u8; limits::LOG],
-    ordinals: &[u32; limits::LOG],
-    stamps: &[u32; limits::LOG],
-    values: &[i32; limits::LOG],
-    master: Master,
-    name: Stamp,
-    key: u32,
-) -> Looked
-    ensures { λ r. ⌜ stepped (readReply (r .answer)) (r .master) (logAt (now (keys .entry)) (now (ordinals .entry)) (now (stamps .entry)) (now (values .entry)) (master .length)) ≡ step (stateOf master (logAt (now (keys .entry)) (now (ordinals .entry)) (now (stamps .entry)) (now (values .entry)) (master .length))) (Read (name .0) key) ⌝ }
-    ensures length { λ r. ⌜ r .master .length ≡ master .length ⌝ }
+pub fn decide_read(memory: &[u32; WORDS], name: Stamp, key: u32) -> Looking
+    ensures reply { λ r. ⌜ readReply (r .answer) ≡ step (stateOf (now (memory .entry))) (Read (name .0) key) .reply ⌝ }
+    ensures place { λ r. ⌜ r .place ≡ placeOf (placesOf (now (memory .entry))) (name .0) ⌝ }
 {
-    let i = master.place_of(name);
-    if limits::DESK <= i {
-        return refuse(master, Refusal::NoTransaction);
+    let place = place_of(memory, name);
+    if limits::DESK <= place {
+        return refuse(place, Refusal::NoTransaction);
     }
     if limits::LAST_KEY < key {
-        return refuse(master, Refusal::NoKey);
+        return refuse(place, Refusal::NoKey);
     }
-    let k = key as u8;
-    let t = master.at(i);
-    match t.pending(k) {
-        Pending::Value(v) => own(master, v),
+    let t = load(memory, place);
+    match t.pending(key) {
+        Pending::Value(v) => Looking {
+            answer: ReadAnswer::Own(v),
+            place,
+        },
         Pending::Nothing => {
-            if limits::READS <= t.recorded {
-                return refuse(master, Refusal::TransactionFull);
+            if is_full(t.recorded) {
+                return refuse(place, Refusal::TransactionFull);
             }
-            let v = versions::newest(keys, ordinals, stamps, values, master.length, k);
-            recorded(master, i, t, k, v)
+            Looking {
+                answer: ReadAnswer::Answered(versions::newest(memory, key)),
+                place,
+            }
+        }
+    }
+}
+
+// A version of a key that was read, recorded by its key, ordinal and stamp by the transaction at a place.
+pub fn change_read(memory: &mut [u32; WORDS], place: usize, key: u32, v: Version)
+    ensures { λ r. ⌜ now (memory .exit) ≡ stored (now (memory .entry)) place (recorded (loaded (now (memory .entry)) place) (marked key v)) ⌝ }
+{
+    let ordinal = v.ordinal;
+    let stamp = v.stamp;
+    let mark = Mark {
+        key,
+        ordinal,
+        stamp,
+    };
+    let t = load(memory, place);
+    store(memory, place, t.record(mark));
+}
+
+// A read at the master answers the key's newest version and records it, or the own pending value and records nothing.
+pub fn read(memory: &mut [u32; WORDS], name: Stamp, key: u32) -> ReadAnswer
+    ensures reply { λ r. ⌜ readReply r ≡ step (stateOf (now (memory .entry))) (Read (name .0) key) .reply ⌝ }
+    ensures memory { λ r. ⌜ now (memory .exit) ≡ after (now (memory .entry)) (Read (name .0) key) ⌝ }
+{
+    let d = decide_read(memory, name, key);
+    let answer = d.answer;
+    match answer {
+        ReadAnswer::Answered(v) => {
+            change_read(memory, d.place, key, v);
+            ReadAnswer::Answered(v)
+        }
+        ReadAnswer::Own(v) => ReadAnswer::Own(v),
+        ReadAnswer::Refused(refusal) => ReadAnswer::Refused(refusal),
+    }
+}
+
+pub fn decide_note(memory: &[u32; WORDS], name: Stamp, key: u32, ordinal: Ordinal) -> Looking
+    ensures reply { λ r. ⌜ readReply (r .answer) ≡ step (stateOf (now (memory .entry))) (Note (name .0) key (ordinal .0)) .reply ⌝ }
+    ensures place { λ r. ⌜ r .place ≡ placeOf (placesOf (now (memory .entry))) (name .0) ⌝ }
+{
+    let place = place_of(memory, name);
+    if limits::DESK <= place {
+        return refuse(place, Refusal::NoTransaction);
+    }
+    if limits::LAST_KEY < key {
+        return refuse(place, Refusal::NoKey);
+    }
+    let t = load(memory, place);
+    match t.pending(key) {
+        Pending::Value(_) => refuse(place, Refusal::KeyWritten),
+        Pending::Nothing => {
+            let Found::At(v) = versions::look_up(memory, key, ordinal) else {
+                return refuse(place, Refusal::NoVersion);
+            };
+            if is_full(t.recorded) {
+                return refuse(place, Refusal::TransactionFull);
+            }
+            Looking {
+                answer: ReadAnswer::Answered(v),
+                place,
+            }
         }
     }
 }
 
 // A note records a version that the client read at a copy; the master looks it up and believes nothing else.
-pub fn note(
-    keys: &[u8; limits::LOG],
-    ordinals: &[u32; limits::LOG],
-    stamps: &[u32; limits::LOG],
-    values: &[i32; limits::LOG],
-    master: Master,
-    name: Stamp,
-    key: u32,
-    ordinal: Ordinal,
-) -> Looked
-    ensures { λ r. ⌜ stepped (readReply (r .answer)) (r .master) (logAt (now (keys .entry)) (now (ordinals .entry)) (now (stamps .entry)) (now (values .entry)) (master .length)) ≡ step (stateOf master (logAt (now (keys .entry)) (now (ordinals .entry)) (now (stamps .entry)) (now (values .entry)) (master .length))) (Note (name .0) key (ordinal .0)) ⌝ }
-    ensures length { λ r. ⌜ r .master .length ≡ master .length ⌝ }
+pub fn note(memory: &mut [u32; WORDS], name: Stamp, key: u32, ordinal: Ordinal) -> ReadAnswer
+    ensures reply { λ r. ⌜ readReply r ≡ step (stateOf (now (memory .entry))) (Note (name .0) key (ordinal .0)) .reply ⌝ }
+    ensures memory { λ r. ⌜ now (memory .exit) ≡ after (now (memory .entry)) (Note (name .0) key (ordinal .0)) ⌝ }
 {
-    let i = master.place_of(name);
-    if limits::DESK <= i {
-        return refuse(master, Refusal::NoTransaction);
-    }
-    if limits::LAST_KEY < key {
-        return refuse(master, Refusal::NoKey);
-    }
-    let k = key as u8;
-    let t = master.at(i);
-    match t.pending(k) {
-        Pending::Value(_) => refuse(master, Refusal::KeyWritten),
-        Pending::Nothing => {
-            let Found::At(v) = versions::look_up(
-                keys,
-                ordinals,
-                stamps,
-                values,
-                master.length,
-                k,
-                ordinal,
-            ) else {
-                return refuse(master, Refusal::NoVersion);
-            };
-            if limits::READS <= t.recorded {
-                return refuse(master, Refusal::TransactionFull);
-            }
-            recorded(master, i, t, k, v)
+    let d = decide_note(memory, name, key, ordinal);
+    let answer = d.answer;
+    match answer {
+        ReadAnswer::Answered(v) => {
+            change_read(memory, d.place, key, v);
+            ReadAnswer::Answered(v)
         }
+        ReadAnswer::Own(v) => ReadAnswer::Own(v),
+        ReadAnswer::Refused(refusal) => ReadAnswer::Refused(refusal),
     }
 }
 
-// The distance of a recorded read, with its sign.
-pub fn distance(
-    keys: &[u8; limits::LOG],
-    ordinals: &[u32; limits::LOG],
-    stamps: &[u32; limits::LOG],
-    values: &[i32; limits::LOG],
-    master: Master,
-    name: Stamp,
-    place: u32,
-) -> DistanceAnswer
-    ensures { λ r. ⌜ stepped (distanceReply r) master (logAt (now (keys .entry)) (now (ordinals .entry)) (now (stamps .entry)) (now (values .entry)) (master .length)) ≡ step (stateOf master (logAt (now (keys .entry)) (now (ordinals .entry)) (now (stamps .entry)) (now (values .entry)) (master .length))) (Distance (name .0) place) ⌝ }
+// The distance of the read that is recorded at a place.
+pub fn distance(memory: &[u32; WORDS], name: Stamp, place: u32) -> DistanceAnswer
+    ensures { λ r. ⌜ distanceReply r ≡ step (stateOf (now (memory .entry))) (Distance (name .0) place) .reply ⌝ }
 {
-    let i = master.place_of(name);
+    let i = place_of(memory, name);
     if limits::DESK <= i {
         return DistanceAnswer::Refused(Refusal::NoTransaction);
     }
-    let t = master.at(i);
+    let t = load(memory, i);
     let p = place as usize;
     if t.reads_in() <= p {
         return DistanceAnswer::Refused(Refusal::NoSuchBoundOrPlace);
     }
-    let d = rules::distance_of(keys, stamps, master.length, t.name, t.read_at(p));
-    DistanceAnswer::Distance(d)
+    DistanceAnswer::Distance(rules::distance_of(memory, t.name, t.read_at(p)))
 }
 
-// Granted exactly if no rule is broken, the log has room and the clock a stamp; a broken rule ends the transaction.
-pub fn commit(
-    keys: &mut [u8; limits::LOG],
-    ordinals: &mut [u32; limits::LOG],
-    stamps: &mut [u32; limits::LOG],
-    values: &mut [i32; limits::LOG],
-    master: Master,
-    name: Stamp,
-) -> Ended
-    ensures state { λ r. ⌜ stepped (commitReply (r .answer)) (r .master) (logAt (now (keys .exit)) (now (ordinals .exit)) (now (stamps .exit)) (now (values .exit)) (r .master .length)) ≡ step (stateOf master (logAt (now (keys .entry)) (now (ordinals .entry)) (now (stamps .entry)) (now (values .entry)) (master .length))) (Commit (name .0)) ⌝ }
-    ensures length { λ r. ⌜ r .master .length ≡ lengthAfter master (logAt (now (keys .entry)) (now (ordinals .entry)) (now (stamps .entry)) (now (values .entry)) (master .length)) (name .0) ⌝ }
-    ensures keys { λ r. ⌜ now (keys .exit) ≡ columnAfter (λ (e : Entry). e .key) (now (keys .entry)) master (logAt (now (keys .entry)) (now (ordinals .entry)) (now (stamps .entry)) (now (values .entry)) (master .length)) (name .0) ⌝ }
-    ensures ordinals { λ r. ⌜ now (ordinals .exit) ≡ columnAfter (λ (e : Entry). e .ordinal) (now (ordinals .entry)) master (logAt (now (keys .entry)) (now (ordinals .entry)) (now (stamps .entry)) (now (values .entry)) (master .length)) (name .0) ⌝ }
-    ensures stamps { λ r. ⌜ now (stamps .exit) ≡ columnAfter (λ (e : Entry). e .stamp) (now (stamps .entry)) master (logAt (now (keys .entry)) (now (ordinals .entry)) (now (stamps .entry)) (now (values .entry)) (master .length)) (name .0) ⌝ }
-    ensures values { λ r. ⌜ now (values .exit) ≡ columnAfter (λ (e : Entry). e .value) (now (values .entry)) master (logAt (now (keys .entry)) (now (ordinals .entry)) (now (stamps .entry)) (now (values .entry)) (master .length)) (name .0) ⌝ }
+pub fn decide_commit(memory: &[u32; WORDS], name: Stamp) -> Ending
+    ensures reply { λ r. ⌜ commitReply (r .answer) ≡ step (stateOf (now (memory .entry))) (Commit (name .0)) .reply ⌝ }
+    ensures place { λ r. ⌜ r .place ≡ placeOf (placesOf (now (memory .entry))) (name .0) ⌝ }
 {
-    let i = master.place_of(name);
-    if limits::DESK <= i {
-        return deny(master, Refusal::NoTransaction);
+    let place = place_of(memory, name);
+    if limits::DESK <= place {
+        return deny(place, Refusal::NoTransaction);
     }
-    let t = master.at(i);
-    match rules::certify(keys, stamps, master.length, t) {
-        Certified::Broken(rule) => aborted(master, i, t, rule),
+    let t = load(memory, place);
+    match rules::certify(memory, t) {
+        Certified::Broken(rule) => Ending {
+            answer: CommitAnswer::Aborted(rule),
+            place,
+        },
         Certified::Whole => {
-            if limits::LOG - in_use(master.length) < t.writes_in() {
-                return deny(master, Refusal::LogFull);
+            if limits::LOG - length_of(memory) < t.writes_in() {
+                return deny(place, Refusal::LogFull);
             }
-            let clock = master.clock;
-            if clock.0 == limits::LAST_STAMP {
-                return deny(master, Refusal::ClockSpent);
+            let clock = memory[CLOCK];
+            if clock == limits::LAST_STAMP {
+                return deny(place, Refusal::ClockSpent);
             }
-            let now = Stamp(clock.0 + 1);
-            let length = versions::install(keys, ordinals, stamps, values, master.length, now, t);
-            committed(master, i, t, now, length)
+            Ending {
+                answer: CommitAnswer::Committed(Stamp(next(clock))),
+                place,
+            }
         }
     }
 }
 
-// The versions of the message that a commit has.
-pub fn made(
-    keys: &[u8; limits::LOG],
-    ordinals: &[u32; limits::LOG],
-    stamps: &[u32; limits::LOG],
-    values: &[i32; limits::LOG],
-    master: Master,
-    stamp: Stamp,
-) -> Sent
-    ensures { λ r. ⌜ stepped (madeReply (r .answer) (madeAt (logAt (now (keys .entry)) (now (ordinals .entry)) (now (stamps .entry)) (now (values .entry)) (master .length)) (stamp .0))) master (logAt (now (keys .entry)) (now (ordinals .entry)) (now (stamps .entry)) (now (values .entry)) (master .length)) ≡ step (stateOf master (logAt (now (keys .entry)) (now (ordinals .entry)) (now (stamps .entry)) (now (values .entry)) (master .length))) (Message (stamp .0)) ⌝ }
-    ensures batch { λ r. ⌜ r .batch ≡ batchOf (madeAt (logAt (now (keys .entry)) (now (ordinals .entry)) (now (stamps .entry)) (now (values .entry)) (master .length)) (stamp .0)) ⌝ }
+// The written keys of the transaction at a place are installed at the stamp, it ends, and the clock shows the stamp.
+pub fn change_commit(memory: &mut [u32; WORDS], place: usize, stamp: Stamp)
+    ensures { λ r. ⌜ now (memory .exit) ≡ set (closed (installed (now (memory .entry)) (stamp .0) (writesOf (loaded (now (memory .entry)) place))) place) 0 (stamp .0) ⌝ }
 {
-    let batch = versions::made_at(keys, ordinals, stamps, values, master.length, stamp);
+    let t = load(memory, place);
+    versions::install(memory, stamp, t);
+    change_end(memory, place);
+    memory[CLOCK] = stamp.0;
+}
+
+pub fn commit(memory: &mut [u32; WORDS], name: Stamp) -> CommitAnswer
+    ensures reply { λ r. ⌜ commitReply r ≡ step (stateOf (now (memory .entry))) (Commit (name .0)) .reply ⌝ }
+    ensures memory { λ r. ⌜ now (memory .exit) ≡ after (now (memory .entry)) (Commit (name .0)) ⌝ }
+{
+    let d = decide_commit(memory, name);
+    let answer = d.answer;
+    match answer {
+        CommitAnswer::Committed(stamp) => {
+            change_commit(memory, d.place, stamp);
+            CommitAnswer::Committed(stamp)
+        }
+        CommitAnswer::Aborted(rule) => {
+            change_end(memory, d.place);
+            CommitAnswer::Aborted(rule)
+        }
+        CommitAnswer::Refused(refusal) => CommitAnswer::Refused(refusal),
+    }
+}
+
+// The versions of the message that a commit has.
+pub fn made(memory: &[u32; WORDS], stamp: Stamp) -> Making
+    ensures reply { λ r. ⌜ madeReply (r .answer) (madeAt (logOf (now (memory .entry))) (stamp .0)) ≡ step (stateOf (now (memory .entry))) (Message (stamp .0)) .reply ⌝ }
+    ensures batch { λ r. ⌜ r .batch ≡ batchOf (madeAt (logOf (now (memory .entry))) (stamp .0)) ⌝ }
+{
+    let batch = versions::made_at(memory, stamp);
     if batch.count == 0 {
-        return Sent {
+        return Making {
             answer: MadeAnswer::Refused(Refusal::NothingWritten),
             batch,
         };
     }
-    Sent {
+    Making {
         answer: MadeAnswer::Made,
         batch,
     }
 }
 
 // The stamp of the commit that made a key's newest version; 0 for a start version.
-pub fn newest(
-    keys: &[u8; limits::LOG],
-    ordinals: &[u32; limits::LOG],
-    stamps: &[u32; limits::LOG],
-    values: &[i32; limits::LOG],
-    master: Master,
-    key: u32,
-) -> NewestAnswer
-    ensures { λ r. ⌜ stepped (newestReply r) master (logAt (now (keys .entry)) (now (ordinals .entry)) (now (stamps .entry)) (now (values .entry)) (master .length)) ≡ step (stateOf master (logAt (now (keys .entry)) (now (ordinals .entry)) (now (stamps .entry)) (now (values .entry)) (master .length))) (Newest key) ⌝ }
+pub fn newest(memory: &[u32; WORDS], key: u32) -> NewestAnswer
+    ensures { λ r. ⌜ newestReply r ≡ step (stateOf (now (memory .entry))) (Newest key) .reply ⌝ }
 {
     if limits::LAST_KEY < key {
         return NewestAnswer::Refused(Refusal::NoKey);
     }
-    let v = versions::newest(keys, ordinals, stamps, values, master.length, key as u8);
+    let v = versions::newest(memory, key);
     let stamp = v.stamp;
     NewestAnswer::MadeBy(stamp)
 }
 
-fn refuse(master: Master, refusal: Refusal) -> Looked
-    ensures { λ r. ⌜ (r .answer ≡ ReadAnswer.Refused refusal) × (r .master ≡ master) ⌝ }
+// A 17th read finds no room.
+fn is_full(recorded: u32) -> bool
+    ensures { λ r. ⌜ r ≡ leb 16 recorded ⌝ }
 {
-    Looked {
+    limits::READS <= recorded as usize
+}
+
+fn refuse(place: usize, refusal: Refusal) -> Looking
+    ensures { λ r. ⌜ (r .answer ≡ ReadAnswer.Refused refusal) × (r .place ≡ place) ⌝ }
+{
+    Looking {
         answer: ReadAnswer::Refused(refusal),
-        master,
+        place,
     }
 }
 
-fn own(master: Master, value: i32) -> Looked
-    ensures { λ r. ⌜ (r .answer ≡ ReadAnswer.Own value) × (r .master ≡ master) ⌝ }
+fn deny(place: usize, refusal: Refusal) -> Ending
+    ensures { λ r. ⌜ (r .answer ≡ CommitAnswer.Refused refusal) × (r .place ≡ place) ⌝ }
 {
-    Looked {
-        answer: ReadAnswer::Own(value),
-        master,
-    }
-}
-
-// The version is answered, and recorded by its key, ordinal and stamp.
-fn recorded(master: Master, i: usize, t: Transaction, key: u8, version: Version) -> Looked
-    ensures { λ r. ⌜ (r .answer ≡ ReadAnswer.Answered version) × (r .master ≡ withPlace master i (recorded t (marked key version))) ⌝ }
-{
-    let ordinal = version.ordinal;
-    let stamp = version.stamp;
-    let mark = Mark {
-        key,
-        ordinal,
-        stamp,
-    };
-    Looked {
-        answer: ReadAnswer::Answered(version),
-        master: master.with(i, t.record(mark)),
-    }
-}
-
-fn deny(master: Master, refusal: Refusal) -> Ended
-    ensures { λ r. ⌜ (r .answer ≡ CommitAnswer.Refused refusal) × (r .master ≡ master) ⌝ }
-{
-    Ended {
+    Ending {
         answer: CommitAnswer::Refused(refusal),
-        master,
+        place,
     }
 }
 
-// The transaction only ends.
-fn aborted(master: Master, i: usize, t: Transaction, rule: Rule) -> Ended
-    ensures { λ r. ⌜ (r .answer ≡ CommitAnswer.Aborted rule) × (r .master ≡ withPlace master i (ended t)) ⌝ }
+// The clock's next stamp.
+fn next(clock: u32) -> u32
+    requires { ⌜ (clock ≡ 4294967295 → ⊥) ⌝ }
+    ensures { λ r. ⌜ r ≡ clock + 1 ⌝ }
 {
-    Ended {
-        answer: CommitAnswer::Aborted(rule),
-        master: master.with(i, t.end()),
-    }
-}
-
-fn committed(master: Master, i: usize, t: Transaction, now: Stamp, length: usize) -> Ended
-    ensures { λ r. ⌜ (r .answer ≡ CommitAnswer.Committed now) × (r .master ≡ record { clock = now; length = length; place = lists.set (master .place) i (ended t) }) ⌝ }
-{
-    let mut m = master.with(i, t.end());
-    m.clock = now;
-    m.length = length;
-    Ended {
-        answer: CommitAnswer::Committed(now),
-        master: m,
-    }
+    clock + 1
 }

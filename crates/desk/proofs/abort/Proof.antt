@@ -5,10 +5,6 @@ use Rattle.desk.proofs.Laws.{abort-after, refused-stays}
 use borrow.Author.Needs.{needs}
 use Rattle.desk.proofs.abort.Statement.{statement}
 use Rattle.desk.proofs.abort.Tie as tie
-use Rattle.desk.proofs.abort.Reads as reads
-use Rattle.desk.proofs.abort.Lts as lts
-use Rattle.desk.proofs.change_end.Reads as change-end-reads
-use Rattle.desk.proofs.decide_abort.Reads as decide-abort-reads
 
 -- src/lib.rt:270:9
 decide-abort-requires : tie.Need-decide-abort-requires

@@ -1,9 +1,6 @@
 use borrow.Author.Needs.{needs}
 use Rattle.desk.proofs.change_end.Statement.{statement}
 use Rattle.desk.proofs.change_end.Tie as tie
-use Rattle.desk.proofs.change_end.Reads as reads
-use Rattle.desk.proofs.change_end.Lts as lts
-use Rattle.memory.proofs.base_of.Reads as base-of-reads
 
 -- src/lib.rt:166:9
 base-of-requires : tie.Need-base-of-requires

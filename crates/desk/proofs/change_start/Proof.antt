@@ -1,10 +1,6 @@
 use borrow.Author.Needs.{needs}
 use Rattle.desk.proofs.change_start.Statement.{statement}
 use Rattle.desk.proofs.change_start.Tie as tie
-use Rattle.desk.proofs.change_start.Reads as reads
-use Rattle.desk.proofs.change_start.Lts as lts
-use Rattle.memory.proofs.store.Reads as store-reads
-use Rattle.transaction.proofs.Transaction.fresh.Reads as fresh-reads
 
 -- src/lib.rt:117:26
 fresh-requires : tie.Need-fresh-requires

@@ -2,11 +2,6 @@
 use borrow.Author.Needs.{needs}
 use Rattle.desk.proofs.change_tune.Statement.{statement}
 use Rattle.desk.proofs.change_tune.Tie as tie
-use Rattle.desk.proofs.change_tune.Reads as reads
-use Rattle.desk.proofs.change_tune.Lts as lts
-use Rattle.memory.proofs.load.Reads as load-reads
-use Rattle.memory.proofs.store.Reads as store-reads
-use Rattle.transaction.proofs.Transaction.tune.Reads as tune-reads
 
 -- src/lib.rt:225:9
 load-requires : tie.Need-load-requires

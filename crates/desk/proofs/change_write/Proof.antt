@@ -2,11 +2,6 @@ use mir.Facts.{toZ-ofZ}
 use borrow.Author.Needs.{needs}
 use Rattle.desk.proofs.change_write.Statement.{statement}
 use Rattle.desk.proofs.change_write.Tie as tie
-use Rattle.desk.proofs.change_write.Reads as reads
-use Rattle.desk.proofs.change_write.Lts as lts
-use Rattle.memory.proofs.load.Reads as load-reads
-use Rattle.memory.proofs.store.Reads as store-reads
-use Rattle.transaction.proofs.Transaction.write.Reads as write-reads
 
 -- src/lib.rt:159:9
 load-requires : tie.Need-load-requires

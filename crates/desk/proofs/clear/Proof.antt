@@ -8,11 +8,6 @@ use Rattle.words.specs.After.{cleared}
 use Rattle.desk.proofs.Laws.{clear-step}
 use Rattle.desk.proofs.clear.Statement.{statement}
 use Rattle.desk.proofs.clear.Tie as tie
-use Rattle.desk.proofs.clear.Reads as reads
-use Rattle.desk.proofs.clear.Lts as lts
-use Rattle.memory.proofs.store.Reads as store-reads
-use Rattle.transaction.proofs.Transaction.end.Reads as end-reads
-use Rattle.transaction.proofs.Transaction.fresh.Reads as fresh-reads
 
 abbrev Inv-loop : tie.InvT-loop
 Inv-loop memory₀ i₀ memory i = (i ≤ 32) × (memory ≡ cleared memory₀ i)

@@ -5,10 +5,6 @@ use Rattle.desk.proofs.Laws.{abort-nobody, abort-goes}
 use borrow.Author.Needs.{needs}
 use Rattle.desk.proofs.decide_abort.Statement.{statement}
 use Rattle.desk.proofs.decide_abort.Tie as tie
-use Rattle.desk.proofs.decide_abort.Reads as reads
-use Rattle.desk.proofs.decide_abort.Lts as lts
-use Rattle.desk.proofs.place_of.Reads as place-of-reads
-use Rattle.desk.proofs.refuse.Reads as refuse-reads
 
 -- src/lib.rt:248:9
 place-of-requires : tie.Need-place-of-requires

@@ -4,10 +4,6 @@ use Rattle.model.specs.Call.{started}
 use borrow.Author.Needs.{needs}
 use Rattle.desk.proofs.decide_start.Statement.{statement}
 use Rattle.desk.proofs.decide_start.Tie as tie
-use Rattle.desk.proofs.decide_start.Reads as reads
-use Rattle.desk.proofs.decide_start.Lts as lts
-use Rattle.desk.proofs.free_place.Reads as free-place-reads
-use Rattle.desk.proofs.next.Reads as next-reads
 
 -- src/lib.rt:97:9
 free-place-requires : tie.Need-free-place-requires

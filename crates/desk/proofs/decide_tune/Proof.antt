@@ -5,11 +5,6 @@ use Rattle.desk.proofs.Laws.{tune-nobody, tune-refused, tune-taken}
 use borrow.Author.Needs.{needs}
 use Rattle.desk.proofs.decide_tune.Statement.{statement}
 use Rattle.desk.proofs.decide_tune.Tie as tie
-use Rattle.desk.proofs.decide_tune.Reads as reads
-use Rattle.desk.proofs.decide_tune.Lts as lts
-use Rattle.desk.proofs.place_of.Reads as place-of-reads
-use Rattle.desk.proofs.refuse.Reads as refuse-reads
-use Rattle.units.proofs.Bounds.new.Reads as new-reads
 
 -- src/lib.rt:209:9
 place-of-requires : tie.Need-place-of-requires

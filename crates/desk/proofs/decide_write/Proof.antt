@@ -1,15 +1,9 @@
 use Rattle.desk.proofs.Laws.{write-nobody, write-no-key, write-full, write-goes}
-use mathlib.Core.Path.{ap, sym, _∙_}
+use mathlib.Core.Path.{ap, _∙_}
 use Rattle.desk.specs.Desk.{doneReply}
 use borrow.Author.Needs.{needs}
 use Rattle.desk.proofs.decide_write.Statement.{statement}
 use Rattle.desk.proofs.decide_write.Tie as tie
-use Rattle.desk.proofs.decide_write.Reads as reads
-use Rattle.desk.proofs.decide_write.Lts as lts
-use Rattle.desk.proofs.place_of.Reads as place-of-reads
-use Rattle.desk.proofs.refuse.Reads as refuse-reads
-use Rattle.memory.proofs.load.Reads as load-reads
-use Rattle.transaction.proofs.Transaction.wrote_at.Reads as wrote-at-reads
 
 -- src/lib.rt:143:9
 place-of-requires : tie.Need-place-of-requires

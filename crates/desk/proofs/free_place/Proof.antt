@@ -1,22 +1,18 @@
-use Prim.Native.Nat.{ℕ, _+_, _-_, _≤_}
+use Prim.Native.Nat.{_+_, _-_, _≤_}
 use native.Mathlib.Omega.{arith}
 use mathlib.Core.Path.{_≡_, _∙_}
-use lib.ListN.{length, drop}
+use lib.ListN.{drop}
 use Rattle.lists.specs.Lists.{find}
 use Rattle.lists.proofs.Find.{search-over, search-hit, search-miss}
 use Rattle.memory.specs.Memory.{placesOf}
 use Rattle.memory.proofs.Laws.{places-length}
-use Rattle.model.specs.State.{freePlace, goesBy, noTransaction}
+use Rattle.model.specs.State.{freePlace, noTransaction}
 use Rattle.desk.proofs.Laws.{free-at}
 use Rattle.transaction.specs.declared.Transaction.{Transaction}
 use mathlib.Core.Bool.{Bool, not}
 use borrow.Author.Needs.{needs}
 use Rattle.desk.proofs.free_place.Statement.{statement}
 use Rattle.desk.proofs.free_place.Tie as tie
-use Rattle.desk.proofs.free_place.Reads as reads
-use Rattle.desk.proofs.free_place.Lts as lts
-use Rattle.desk.proofs.is_free.Reads as is-free-reads
-use Rattle.memory.proofs.base_of.Reads as base-of-reads
 
 abbrev isFree : Transaction → Bool
 isFree t = not (t .live)

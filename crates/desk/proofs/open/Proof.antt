@@ -2,9 +2,6 @@
 use borrow.Author.Needs.{needs}
 use Rattle.desk.proofs.open.Statement.{statement}
 use Rattle.desk.proofs.open.Tie as tie
-use Rattle.desk.proofs.open.Reads as reads
-use Rattle.desk.proofs.open.Lts as lts
-use Rattle.desk.proofs.clear.Reads as clear-reads
 
 -- src/lib.rt:55:5
 clear-requires : tie.Need-clear-requires

@@ -1,7 +1,7 @@
-use Prim.Native.Nat.{ℕ, _+_, _-_, _≤_}
+use Prim.Native.Nat.{_+_, _-_, _≤_}
 use native.Mathlib.Omega.{arith}
 use mathlib.Core.Path.{_≡_, _∙_}
-use lib.ListN.{length, drop}
+use lib.ListN.{drop}
 use Rattle.lists.specs.Lists.{find}
 use Rattle.lists.proofs.Find.{search-over, search-hit, search-miss}
 use Rattle.memory.specs.Memory.{placesOf}
@@ -11,10 +11,6 @@ use Rattle.desk.proofs.Laws.{goes-at}
 use borrow.Author.Needs.{needs}
 use Rattle.desk.proofs.place_of.Statement.{statement}
 use Rattle.desk.proofs.place_of.Tie as tie
-use Rattle.desk.proofs.place_of.Reads as reads
-use Rattle.desk.proofs.place_of.Lts as lts
-use Rattle.desk.proofs.goes_by.Reads as goes-by-reads
-use Rattle.memory.proofs.base_of.Reads as base-of-reads
 
 abbrev Inv-loop : tie.InvT-loop
 Inv-loop memory n i₀ i = (i ≤ 32) × (placeOf (placesOf memory) n ≡ i + find (goesBy n) (drop i (placesOf memory)))

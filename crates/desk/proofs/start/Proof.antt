@@ -4,10 +4,6 @@ use Rattle.desk.specs.Desk.{startReply}
 use borrow.Author.Needs.{needs}
 use Rattle.desk.proofs.start.Statement.{statement}
 use Rattle.desk.proofs.start.Tie as tie
-use Rattle.desk.proofs.start.Reads as reads
-use Rattle.desk.proofs.start.Lts as lts
-use Rattle.desk.proofs.change_start.Reads as change-start-reads
-use Rattle.desk.proofs.decide_start.Reads as decide-start-reads
 
 -- src/lib.rt:128:9
 decide-start-requires : tie.Need-decide-start-requires

@@ -5,10 +5,6 @@ use Rattle.desk.proofs.Laws.{tune-after, refused-stays}
 use borrow.Author.Needs.{needs}
 use Rattle.desk.proofs.tune.Statement.{statement}
 use Rattle.desk.proofs.tune.Tie as tie
-use Rattle.desk.proofs.tune.Reads as reads
-use Rattle.desk.proofs.tune.Lts as lts
-use Rattle.desk.proofs.change_tune.Reads as change-tune-reads
-use Rattle.desk.proofs.decide_tune.Reads as decide-tune-reads
 
 -- src/lib.rt:233:9
 decide-tune-requires : tie.Need-decide-tune-requires

@@ -5,10 +5,6 @@ use Rattle.desk.specs.Desk.{doneReply}
 use borrow.Author.Needs.{needs}
 use Rattle.desk.proofs.write.Statement.{statement}
 use Rattle.desk.proofs.write.Tie as tie
-use Rattle.desk.proofs.write.Reads as reads
-use Rattle.desk.proofs.write.Lts as lts
-use Rattle.desk.proofs.change_write.Reads as change-write-reads
-use Rattle.desk.proofs.decide_write.Reads as decide-write-reads
 
 -- src/lib.rt:170:9
 decide-write-requires : tie.Need-decide-write-requires
