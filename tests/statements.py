@@ -1,5 +1,6 @@
 #!/usr/bin/env python3
-"""Looks up each name and each path in backquotes of docs/STATEMENTS.md in the crates, and prints those that stand nowhere.
+"""Looks up each name and each path in backquotes of docs/STATEMENTS.md in the crates, and prints those that stand nowhere; and each wrong
+answer that is kept as a file, and prints those that docs/STATEMENTS.md does not name.
 
     tests/statements.py
 """
@@ -19,7 +20,8 @@ for path in glob.glob("crates/*/src/*.rt"):
     text = open(path).read()
     names.update(re.findall(r"\b(?:fn|struct|enum|const|mod)\s+(\w+)", text))
     names.update(re.findall(r"^\s+([A-Z]\w*)\b", text, re.M))
-names.update(os.path.basename(p)[:-5] for p in glob.glob("crates/*/must-fail/*.edit") + glob.glob("tests/wrong/*/*.edit"))
+edits = sorted(glob.glob("crates/*/must-fail/*.edit") + glob.glob("tests/wrong/*/*.edit"))
+names.update(os.path.basename(p)[:-5] for p in edits)
 names.update(os.listdir("crates"))
 
 # words of Rattle, of what is printed, and of parameters
@@ -39,4 +41,9 @@ for number, line in enumerate(open("docs/STATEMENTS.md"), 1):
         if not found:
             lost += 1
             print("docs/STATEMENTS.md:%d: %s" % (number, quoted))
+text = open("docs/STATEMENTS.md").read()
+for path in edits:
+    if "`%s`" % os.path.basename(path)[:-5] not in text:
+        lost += 1
+        print("docs/STATEMENTS.md does not name %s" % path)
 sys.exit(1 if lost else 0)

@@ -14,6 +14,7 @@ ghost use Rattle.words.specs.After.{closed, cleared, openedWords, after};
 ghost use Rattle.desk.specs.Desk.{startReply, doneReply};
 use memory::CLOCK;
 use memory::LENGTH;
+use memory::LIVE;
 use memory::WORDS;
 use memory::base_of;
 use memory::load;
@@ -76,7 +77,7 @@ pub fn place_of(memory: &[u32; WORDS], name: Stamp) -> usize
     let mut i = 0;
     while i < limits::DESK {
         let b = base_of(i);
-        if goes_by(memory[b], memory[b + 1], n) {
+        if goes_by(memory[b], memory[b + LIVE], n) {
             return i;
         }
         i += 1;
@@ -91,7 +92,7 @@ pub fn free_place(memory: &[u32; WORDS]) -> usize
     let mut i = 0;
     while i < limits::DESK {
         let b = base_of(i);
-        if is_free(memory[b + 1]) {
+        if is_free(memory[b + LIVE]) {
             return i;
         }
         i += 1;
@@ -260,7 +261,7 @@ pub fn change_end(memory: &mut [u32; WORDS], place: usize)
     ensures { λ r. ⌜ now (memory .exit) ≡ closed (now (memory .entry)) place ⌝ }
 {
     let b = base_of(place);
-    memory[b + 1] = 0;
+    memory[b + LIVE] = 0;
 }
 
 pub fn abort(memory: &mut [u32; WORDS], name: Stamp) -> DoneAnswer

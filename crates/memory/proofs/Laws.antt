@@ -22,6 +22,7 @@ use Rattle.model.specs.State.{noTransaction}
 use Rattle.memory.specs.Memory.{tab, baseOf, markAt, writeAt, loaded, markWords, writeWords, headWords, stored, entries, placesOf, lengthOf, logOf, stateOf, Good}
 use Rattle.memory.proofs.Tables.{length-tab, getD-tab, is-tab}
 use Rattle.memory.proofs.Words.{value-fits}
+use Rattle.memory.specs.Layout.{clockAt, deskFrom, keysFrom, liveAt, ordinalsFrom, placeWords, readsFrom, stampsFrom, valuesFrom, wordCount, writesFrom}
 
 -- ---- a run of stored words
 module _ {A : Type 0} (d : A) where
@@ -89,16 +90,16 @@ module _ (ws : List ℕ) (p : ℕ) (t : Transaction) where
   pub length-stored : length (stored ws p t) ≡ length ws
   unfolding stored
   length-stored =
-      length-sets _ (baseOf p + 55) (writeWords (t .writes))
-      ∙ length-sets _ (baseOf p + 7) (markWords (t .reads))
+      length-sets _ (baseOf p + writesFrom) (writeWords (t .writes))
+      ∙ length-sets _ (baseOf p + readsFrom) (markWords (t .reads))
       ∙ length-sets ws (baseOf p) (headWords t)
 
   -- the words before the place, and those behind it
   pub word-before : (j : ℕ) → j < baseOf p → getD (stored ws p t) j 0 ≡ getD ws j 0
   unfolding stored
   word-before j h =
-      sets-before 0 (writeWords (t .writes)) _ (baseOf p + 55) j (omega arith)
-      ∙ sets-before 0 (markWords (t .reads)) _ (baseOf p + 7) j (omega arith)
+      sets-before 0 (writeWords (t .writes)) _ (baseOf p + writesFrom) j (omega arith)
+      ∙ sets-before 0 (markWords (t .reads)) _ (baseOf p + readsFrom) j (omega arith)
       ∙ sets-before 0 (headWords t) ws (baseOf p) j h
 
   module _ (g : Good t) where
@@ -108,47 +109,47 @@ module _ (ws : List ℕ) (p : ℕ) (t : Transaction) where
     values : length (writeWords (t .writes)) ≡ 32
     values = omega (arith, length-writes (t .writes), g .writes)
 
-    pub word-behind : (j : ℕ) → baseOf p + 87 ≤ j → getD (stored ws p t) j 0 ≡ getD ws j 0
+    pub word-behind : (j : ℕ) → baseOf p + placeWords ≤ j → getD (stored ws p t) j 0 ≡ getD ws j 0
     unfolding stored
     word-behind j h =
-        sets-after 0 (writeWords (t .writes)) _ (baseOf p + 55) j (omega (arith, values))
-        ∙ sets-after 0 (markWords (t .reads)) _ (baseOf p + 7) j (omega (arith, marks))
+        sets-after 0 (writeWords (t .writes)) _ (baseOf p + writesFrom) j (omega (arith, values))
+        ∙ sets-after 0 (markWords (t .reads)) _ (baseOf p + readsFrom) j (omega (arith, marks))
         ∙ sets-after 0 (headWords t) ws (baseOf p) j (omega arith)
 
-    module _ (whole : length ws ≡ 19170) where
-      room : (l : List ℕ) → length l ≡ length ws → baseOf p + 87 ≤ length l
+    module _ (whole : length ws ≡ wordCount) where
+      room : (l : List ℕ) → length l ≡ length ws → baseOf p + placeWords ≤ length l
       room l e = omega arith
 
       head-word : (j : ℕ) → j < 7 → getD (stored ws p t) (baseOf p + j) 0 ≡ getD (headWords t) j 0
       unfolding stored
       head-word j h =
-          sets-before 0 (writeWords (t .writes)) _ (baseOf p + 55) (baseOf p + j) (omega arith)
-          ∙ sets-before 0 (markWords (t .reads)) _ (baseOf p + 7) (baseOf p + j) (omega arith)
+          sets-before 0 (writeWords (t .writes)) _ (baseOf p + writesFrom) (baseOf p + j) (omega arith)
+          ∙ sets-before 0 (markWords (t .reads)) _ (baseOf p + readsFrom) (baseOf p + j) (omega arith)
           ∙ sets-at 0 (headWords t) ws (baseOf p) j h (omega arith)
 
-      read-word : (j : ℕ) → j < 48 → getD (stored ws p t) (baseOf p + 7 + j) 0 ≡ getD (markWords (t .reads)) j 0
+      read-word : (j : ℕ) → j < 48 → getD (stored ws p t) (baseOf p + readsFrom + j) 0 ≡ getD (markWords (t .reads)) j 0
       unfolding stored
       read-word j h =
-          sets-before 0 (writeWords (t .writes)) _ (baseOf p + 55) (baseOf p + 7 + j) (omega arith)
-          ∙ sets-at 0 (markWords (t .reads)) (sets ws (baseOf p) (headWords t)) (baseOf p + 7) j (omega (arith, marks)) (omega (arith, marks, length-sets ws (baseOf p) (headWords t)))
+          sets-before 0 (writeWords (t .writes)) _ (baseOf p + writesFrom) (baseOf p + readsFrom + j) (omega arith)
+          ∙ sets-at 0 (markWords (t .reads)) (sets ws (baseOf p) (headWords t)) (baseOf p + readsFrom) j (omega (arith, marks)) (omega (arith, marks, length-sets ws (baseOf p) (headWords t)))
 
-      write-word : (j : ℕ) → j < 32 → getD (stored ws p t) (baseOf p + 55 + j) 0 ≡ getD (writeWords (t .writes)) j 0
+      write-word : (j : ℕ) → j < 32 → getD (stored ws p t) (baseOf p + writesFrom + j) 0 ≡ getD (writeWords (t .writes)) j 0
       unfolding stored
       write-word j h =
-          let u : List ℕ = sets (sets ws (baseOf p) (headWords t)) (baseOf p + 7) (markWords (t .reads)) in
-          let e : length u ≡ 19170 = length-sets _ (baseOf p + 7) (markWords (t .reads)) ∙ length-sets ws (baseOf p) (headWords t) ∙ whole in
-          sets-at 0 (writeWords (t .writes)) u (baseOf p + 55) j (omega (arith, values)) (omega (arith, values))
+          let u : List ℕ = sets (sets ws (baseOf p) (headWords t)) (baseOf p + readsFrom) (markWords (t .reads)) in
+          let e : length u ≡ wordCount = length-sets _ (baseOf p + readsFrom) (markWords (t .reads)) ∙ length-sets ws (baseOf p) (headWords t) ∙ whole in
+          sets-at 0 (writeWords (t .writes)) u (baseOf p + writesFrom) j (omega (arith, values)) (omega (arith, values))
 
-      read-back : (i : ℕ) → i < 16 → markAt (stored ws p t) (baseOf p + 7 + 3 * i) ≡ getD (t .reads) i noMark
+      read-back : (i : ℕ) → i < 16 → markAt (stored ws p t) (baseOf p + readsFrom + 3 * i) ≡ getD (t .reads) i noMark
       read-back i h =
-          let b : ℕ = baseOf p + 7 in
+          let b : ℕ = baseOf p + readsFrom in
           let e1 : b + 3 * i + 1 ≡ b + (3 * i + 1) = omega arith in
           let e2 : b + 3 * i + 2 ≡ b + (3 * i + 2) = omega arith in
           rw (e1, e2, read-word (3 * i) (omega arith), read-word (3 * i + 1) (omega arith), read-word (3 * i + 2) (omega arith)) (mark-word (t .reads) i)
 
-      write-back : (i : ℕ) → i < 16 → writeAt (stored ws p t) (baseOf p + 55 + 2 * i) ≡ getD (t .writes) i noWrite
+      write-back : (i : ℕ) → i < 16 → writeAt (stored ws p t) (baseOf p + writesFrom + 2 * i) ≡ getD (t .writes) i noWrite
       write-back i h =
-          let b : ℕ = baseOf p + 55 in
+          let b : ℕ = baseOf p + writesFrom in
           let e1 : b + 2 * i + 1 ≡ b + (2 * i + 1) = omega arith in
           rw (e1, write-word (2 * i) (omega arith), write-word (2 * i + 1) (omega arith)) (write-words (t .writes) i (g .values i))
 
@@ -157,27 +158,27 @@ module _ (ws : List ℕ) (p : ℕ) (t : Transaction) where
       unfolding loaded
       load-same =
           let name : getD (stored ws p t) (baseOf p) 0 ≡ t .name .0 = rw (← add-zero (baseOf p)) (head-word 0 (omega arith)) in
-          let reads : tab (λ (i : ℕ). markAt (stored ws p t) (baseOf p + 7 + 3 * i)) 16 ≡ t .reads = sym (is-tab _ 16 noMark (t .reads) (g .reads) (λ i h. sym (read-back i h))) in
-          let writes : tab (λ (i : ℕ). writeAt (stored ws p t) (baseOf p + 55 + 2 * i)) 16 ≡ t .writes = sym (is-tab _ 16 noWrite (t .writes) (g .writes) (λ i h. sym (write-back i h))) in
+          let reads : tab (λ (i : ℕ). markAt (stored ws p t) (baseOf p + readsFrom + 3 * i)) 16 ≡ t .reads = sym (is-tab _ 16 noMark (t .reads) (g .reads) (λ i h. sym (read-back i h))) in
+          let writes : tab (λ (i : ℕ). writeAt (stored ws p t) (baseOf p + writesFrom + 2 * i)) 16 ≡ t .writes = sym (is-tab _ 16 noWrite (t .writes) (g .writes) (λ i h. sym (write-back i h))) in
           rw
           (name, reads, writes, head-word 1 (omega arith), head-word 2 (omega arith), head-word 3 (omega arith), head-word 4 (omega arith), head-word 5 (omega arith), head-word 6 (omega arith), flag-back (t .live), mod-eq-of-lt (g .k1), mod-eq-of-lt (g .k2), mod-eq-of-lt (g .k3))
 
 -- what is loaded depends on the place's own words
-pub load-frame : (ws us : List ℕ) (q : ℕ) → ((j : ℕ) → baseOf q ≤ j → j < baseOf q + 87 → getD us j 0 ≡ getD ws j 0) → loaded us q ≡ loaded ws q
+pub load-frame : (ws us : List ℕ) (q : ℕ) → ((j : ℕ) → baseOf q ≤ j → j < baseOf q + placeWords → getD us j 0 ≡ getD ws j 0) → loaded us q ≡ loaded ws q
 unfolding loaded
 load-frame ws us q h =
-    let reads : tab (λ (i : ℕ). markAt us (baseOf q + 7 + 3 * i)) 16 ≡ tab (λ (i : ℕ). markAt ws (baseOf q + 7 + 3 * i)) 16 = tab-same noMark _ _ 16 (λ i k. rw (h (baseOf q + 7 + 3 * i) (omega arith) (omega arith), h (baseOf q + 7 + 3 * i + 1) (omega arith) (omega arith), h (baseOf q + 7 + 3 * i + 2) (omega arith) (omega arith))) in
-    let writes : tab (λ (i : ℕ). writeAt us (baseOf q + 55 + 2 * i)) 16 ≡ tab (λ (i : ℕ). writeAt ws (baseOf q + 55 + 2 * i)) 16 = tab-same noWrite _ _ 16 (λ i k. rw (h (baseOf q + 55 + 2 * i) (omega arith) (omega arith), h (baseOf q + 55 + 2 * i + 1) (omega arith) (omega arith))) in
+    let reads : tab (λ (i : ℕ). markAt us (baseOf q + readsFrom + 3 * i)) 16 ≡ tab (λ (i : ℕ). markAt ws (baseOf q + readsFrom + 3 * i)) 16 = tab-same noMark _ _ 16 (λ i k. rw (h (baseOf q + readsFrom + 3 * i) (omega arith) (omega arith), h (baseOf q + readsFrom + 3 * i + 1) (omega arith) (omega arith), h (baseOf q + readsFrom + 3 * i + 2) (omega arith) (omega arith))) in
+    let writes : tab (λ (i : ℕ). writeAt us (baseOf q + writesFrom + 2 * i)) 16 ≡ tab (λ (i : ℕ). writeAt ws (baseOf q + writesFrom + 2 * i)) 16 = tab-same noWrite _ _ 16 (λ i k. rw (h (baseOf q + writesFrom + 2 * i) (omega arith) (omega arith), h (baseOf q + writesFrom + 2 * i + 1) (omega arith) (omega arith))) in
     rw
-    (reads, writes, h (baseOf q) (omega arith) (omega arith), h (baseOf q + 1) (omega arith) (omega arith), h (baseOf q + 2) (omega arith) (omega arith), h (baseOf q + 3) (omega arith) (omega arith), h (baseOf q + 4) (omega arith) (omega arith), h (baseOf q + 5) (omega arith) (omega arith), h (baseOf q + 6) (omega arith) (omega arith))
+    (reads, writes, h (baseOf q) (omega arith) (omega arith), h (baseOf q + liveAt) (omega arith) (omega arith), h (baseOf q + 2) (omega arith) (omega arith), h (baseOf q + 3) (omega arith) (omega arith), h (baseOf q + 4) (omega arith) (omega arith), h (baseOf q + 5) (omega arith) (omega arith), h (baseOf q + 6) (omega arith) (omega arith))
 
 -- and so does the log on its own
-pub log-frame : (ws us : List ℕ) (n : ℕ) → n ≤ 4096 → ((j : ℕ) → 2 ≤ j → j < 16386 → getD us j 0 ≡ getD ws j 0) → entries us n ≡ entries ws n
+pub log-frame : (ws us : List ℕ) (n : ℕ) → n ≤ 4096 → ((j : ℕ) → 2 ≤ j → j < deskFrom → getD us j 0 ≡ getD ws j 0) → entries us n ≡ entries ws n
 unfolding entries
 log-frame ws us zero k h = refl
 log-frame ws us (suc n) k h =
     rw
-    (h (2 + n) (omega arith) (omega arith), h (4098 + n) (omega arith) (omega arith), h (8194 + n) (omega arith) (omega arith), h (12290 + n) (omega arith) (omega arith), log-frame ws us n (omega arith) h)
+    (h (keysFrom + n) (omega arith) (omega arith), h (ordinalsFrom + n) (omega arith) (omega arith), h (stampsFrom + n) (omega arith) (omega arith), h (valuesFrom + n) (omega arith) (omega arith), log-frame ws us n (omega arith) h)
 
 pub good-loaded : (ws : List ℕ) (p : ℕ) → Good (loaded ws p)
 unfolding loaded
@@ -191,17 +192,17 @@ good-loaded ws p =
       values = λ i. go i (decLt i 16);
     }
   where
-    go : (i : ℕ) → Dec (i < 16) → SFits w32 (getD (tab (λ (i : ℕ). writeAt ws (baseOf p + 55 + 2 * i)) 16) i noWrite .value)
-    go i (yes h) = rw (getD-tab (λ (i : ℕ). writeAt ws (baseOf p + 55 + 2 * i)) 16 i noWrite h) (value-fits (getD ws (baseOf p + 55 + 2 * i + 1) 0))
+    go : (i : ℕ) → Dec (i < 16) → SFits w32 (getD (tab (λ (i : ℕ). writeAt ws (baseOf p + writesFrom + 2 * i)) 16) i noWrite .value)
+    go i (yes h) = rw (getD-tab (λ (i : ℕ). writeAt ws (baseOf p + writesFrom + 2 * i)) 16 i noWrite h) (value-fits (getD ws (baseOf p + writesFrom + 2 * i + 1) 0))
     go i (no h) =
-        let past : length (tab (λ (i : ℕ). writeAt ws (baseOf p + 55 + 2 * i)) 16) ≤ i = omega (arith, length-tab (λ (i : ℕ). writeAt ws (baseOf p + 55 + 2 * i)) 16) in
-        rw (List·getD-eq-default (tab (λ (i : ℕ). writeAt ws (baseOf p + 55 + 2 * i)) 16) noWrite past) (record { sfits = omega arith })
+        let past : length (tab (λ (i : ℕ). writeAt ws (baseOf p + writesFrom + 2 * i)) 16) ≤ i = omega (arith, length-tab (λ (i : ℕ). writeAt ws (baseOf p + writesFrom + 2 * i)) 16) in
+        rw (List·getD-eq-default (tab (λ (i : ℕ). writeAt ws (baseOf p + writesFrom + 2 * i)) 16) noWrite past) (record { sfits = omega arith })
 
-module _ (ws : List ℕ) (whole : length ws ≡ 19170) (p : ℕ) (below : p < 32) (t : Transaction) (g : Good t) where
+module _ (ws : List ℕ) (whole : length ws ≡ wordCount) (p : ℕ) (below : p < 32) (t : Transaction) (g : Good t) where
   pub load-other : (q : ℕ) → q < 32 → (q ≡ p → ⊥) → loaded (stored ws p t) q ≡ loaded ws q
   load-other q h e = load-frame ws (stored ws p t) q (λ j l k. go j l k (decLt q p))
     where
-      go : (j : ℕ) → baseOf q ≤ j → j < baseOf q + 87 → Dec (q < p) → getD (stored ws p t) j 0 ≡ getD ws j 0
+      go : (j : ℕ) → baseOf q ≤ j → j < baseOf q + placeWords → Dec (q < p) → getD (stored ws p t) j 0 ≡ getD ws j 0
       go j l k (yes s) = word-before ws p t j (omega arith)
       go j l k (no s) = word-behind ws p t g j (omega arith)
 
@@ -213,7 +214,7 @@ module _ (ws : List ℕ) (whole : length ws ≡ 19170) (p : ℕ) (below : p < 32
   log-stored = rw (word-before ws p t 1 (omega arith)) (log-frame ws (stored ws p t) (lengthOf ws) (omega arith) (λ j l h. word-before ws p t j (omega arith)))
 
   -- one transaction of the state is another, and the rest stays
-  pub state-stored : stateOf (stored ws p t) ≡ record { clock = getD ws 0 0; log = logOf ws; place = set (placesOf ws) p t }
+  pub state-stored : stateOf (stored ws p t) ≡ record { clock = getD ws clockAt 0; log = logOf ws; place = set (placesOf ws) p t }
   state-stored =
       rw
       (places-stored, log-stored, word-before ws p t 0 (omega arith))

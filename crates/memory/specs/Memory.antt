@@ -1,5 +1,4 @@
--- What the words of the master's memory stand for. Word 0 is the clock and word 1 the length of the log; then come the log's keys,
--- ordinals, stamps and values, 4,096 words each, and the 32 places of the desk, 87 words each.
+-- What the words of the master's memory stand for.
 use Prim.Native.Nat.{ℕ, zero, suc, _+_, _*_, _%_, _<_, min}
 use mathlib.Core.Path.{_≡_}
 use mathlib.Core.Bool.{not}
@@ -15,6 +14,7 @@ use Rattle.transaction.specs.declared.Write.{Write}
 use Rattle.transaction.specs.declared.Transaction.{Transaction}
 use Rattle.model.specs.Log.{Entry}
 use Rattle.model.specs.State.{State}
+use Rattle.memory.specs.Layout.{clockAt, deskFrom, keysFrom, lengthAt, liveAt, ordinalsFrom, placeWords, readsFrom, stampsFrom, valuesFrom, writesFrom}
 
 -- f at the places 0, 1, .., n - 1
 unfoldable pub tab : {A : Type 0} → (ℕ → A) → ℕ → List A
@@ -23,7 +23,7 @@ tab f (suc n) = f 0 ∷ tab (λ (i : ℕ). f (suc i)) n
 
 -- where a place of the desk begins; past the last, where the last begins
 abbrev pub baseOf : ℕ → ℕ
-baseOf p = 16386 + 87 * min p 31
+baseOf p = deskFrom + placeWords * min p 31
 
 abbrev pub markAt : List ℕ → ℕ → Mark
 markAt ws a = record { key = getD ws a 0; ordinal = record { 0 = getD ws (a + 1) 0 }; stamp = record { 0 = getD ws (a + 2) 0 } }
@@ -36,11 +36,11 @@ unfoldable pub loaded : List ℕ → ℕ → Transaction
 loaded ws p =
     record {
       name = record { 0 = getD ws (baseOf p) 0 };
-      live = not (eqb (getD ws (baseOf p + 1) 0) 0);
+      live = not (eqb (getD ws (baseOf p + liveAt) 0) 0);
       bounds = record { k1 = getD ws (baseOf p + 2) 0 % 65536; k2 = getD ws (baseOf p + 3) 0 % 65536; k3 = getD ws (baseOf p + 4) 0 % 65536 };
-      reads = tab (λ (i : ℕ). markAt ws (baseOf p + 7 + 3 * i)) 16;
+      reads = tab (λ (i : ℕ). markAt ws (baseOf p + readsFrom + 3 * i)) 16;
       recorded = getD ws (baseOf p + 5) 0;
-      writes = tab (λ (i : ℕ). writeAt ws (baseOf p + 55 + 2 * i)) 16;
+      writes = tab (λ (i : ℕ). writeAt ws (baseOf p + writesFrom + 2 * i)) 16;
       written = getD ws (baseOf p + 6) 0;
     }
 
@@ -58,13 +58,13 @@ headWords t = t .name .0 ∷ boolByte (t .live) ∷ t .bounds .k1 ∷ t .bounds 
 unfoldable pub stored : List ℕ → ℕ → Transaction → List ℕ
 stored ws p t =
     sets
-    (sets (sets ws (baseOf p) (headWords t)) (baseOf p + 7) (markWords (t .reads)))
-    (baseOf p + 55)
+    (sets (sets ws (baseOf p) (headWords t)) (baseOf p + readsFrom) (markWords (t .reads)))
+    (baseOf p + writesFrom)
     (writeWords (t .writes))
 
 -- a version of the log
 abbrev pub entryAt : List ℕ → ℕ → Entry
-entryAt ws i = record { key = getD ws (2 + i) 0; ordinal = getD ws (4098 + i) 0; stamp = getD ws (8194 + i) 0; value = toZ w32 (getD ws (12290 + i) 0) }
+entryAt ws i = record { key = getD ws (keysFrom + i) 0; ordinal = getD ws (ordinalsFrom + i) 0; stamp = getD ws (stampsFrom + i) 0; value = toZ w32 (getD ws (valuesFrom + i) 0) }
 
 -- the first n versions, the newest first
 unfoldable pub entries : List ℕ → ℕ → List Entry
@@ -72,7 +72,7 @@ entries ws zero = []
 entries ws (suc n) = entryAt ws n ∷ entries ws n
 
 abbrev pub lengthOf : List ℕ → ℕ
-lengthOf ws = min (getD ws 1 0) 4096
+lengthOf ws = min (getD ws lengthAt 0) 4096
 
 abbrev pub logOf : List ℕ → List Entry
 logOf ws = entries ws (lengthOf ws)
@@ -82,7 +82,7 @@ placesOf ws = tab (loaded ws) 32
 
 -- the state that the words stand for
 abbrev pub stateOf : List ℕ → State
-stateOf ws = record { clock = getD ws 0 0; log = logOf ws; place = placesOf ws }
+stateOf ws = record { clock = getD ws clockAt 0; log = logOf ws; place = placesOf ws }
 
 -- a transaction that its words can say: its arrays have their places, its numbers their ranges
 pub record Good (t : Transaction) : Type 0 where

@@ -7,6 +7,7 @@ ghost use lib.ListN.{length, getD};
 ghost use lib.Seq.{sets};
 ghost use mir.Syntax.{w32};
 ghost use mir.Val.{toZ, ofZ, boolByte};
+ghost use Rattle.memory.specs.Layout.{wordCount};
 ghost use Rattle.memory.specs.Memory.{baseOf, loaded, stored, markAt, writeAt, tab, markWords, writeWords};
 use transaction::Mark;
 use transaction::Transaction;
@@ -17,23 +18,25 @@ use units::Stamp;
 use units::at_most;
 use units::limits;
 
-pub const CLOCK: usize = 0;
+mod layout;
 
-pub const LENGTH: usize = 1;
-
-pub const KEYS: usize = 2;
-
-pub const ORDINALS: usize = 4098;
-
-pub const STAMPS: usize = 8194;
-
-pub const VALUES: usize = 12290;
-
-pub const DESK: usize = 16386;
-
-pub const PLACE: usize = 87;
-
-pub const WORDS: usize = 19170;
+pub use layout::CLOCK;
+pub use layout::DESK;
+pub use layout::K1;
+pub use layout::K2;
+pub use layout::K3;
+pub use layout::KEYS;
+pub use layout::LENGTH;
+pub use layout::LIVE;
+pub use layout::ORDINALS;
+pub use layout::PLACE;
+pub use layout::READS;
+pub use layout::RECORDED;
+pub use layout::STAMPS;
+pub use layout::VALUES;
+pub use layout::WORDS;
+pub use layout::WRITES;
+pub use layout::WRITTEN;
 
 // Where a place of the desk begins; past the last, where the last begins.
 pub fn base_of(place: usize) -> usize
@@ -92,7 +95,7 @@ fn wide(k: u16) -> u32
 }
 
 fn mark_at(memory: &[u32; WORDS], at: usize) -> Mark
-    requires { ⌜ at + 3 ≤ 19170 ⌝ }
+    requires { ⌜ at + 3 ≤ wordCount ⌝ }
     ensures { λ r. ⌜ r ≡ markAt (now (memory .entry)) at ⌝ }
 {
     Mark {
@@ -103,7 +106,7 @@ fn mark_at(memory: &[u32; WORDS], at: usize) -> Mark
 }
 
 fn write_at(memory: &[u32; WORDS], at: usize) -> Write
-    requires { ⌜ at + 2 ≤ 19170 ⌝ }
+    requires { ⌜ at + 2 ≤ wordCount ⌝ }
     ensures { λ r. ⌜ r ≡ writeAt (now (memory .entry)) at ⌝ }
 {
     let value = value_of(memory[at + 1]);
@@ -114,7 +117,7 @@ fn write_at(memory: &[u32; WORDS], at: usize) -> Write
 }
 
 fn load_reads(memory: &[u32; WORDS], at: usize) -> [Mark; limits::READS]
-    requires { ⌜ at + 48 ≤ 19170 ⌝ }
+    requires { ⌜ at + 48 ≤ wordCount ⌝ }
     ensures { λ r. ⌜ r ≡ tab (λ (i : ℕ). markAt (now (memory .entry)) (at + 3 * i)) 16 ⌝ }
 {
     let m = Mark {
@@ -132,7 +135,7 @@ fn load_reads(memory: &[u32; WORDS], at: usize) -> [Mark; limits::READS]
 }
 
 fn load_writes(memory: &[u32; WORDS], at: usize) -> [Write; limits::WRITES]
-    requires { ⌜ at + 32 ≤ 19170 ⌝ }
+    requires { ⌜ at + 32 ≤ wordCount ⌝ }
     ensures { λ r. ⌜ r ≡ tab (λ (i : ℕ). writeAt (now (memory .entry)) (at + 2 * i)) 16 ⌝ }
 {
     let w = Write { key: 0, value: 0 };
@@ -151,25 +154,25 @@ pub fn load(memory: &[u32; WORDS], place: usize) -> Transaction
 {
     let b = base_of(place);
     let bounds = Bounds {
-        k1: short_of(memory[b + 2]),
-        k2: short_of(memory[b + 3]),
-        k3: short_of(memory[b + 4]),
+        k1: short_of(memory[b + K1]),
+        k2: short_of(memory[b + K2]),
+        k3: short_of(memory[b + K3]),
     };
-    let reads = load_reads(memory, b + 7);
-    let writes = load_writes(memory, b + 55);
+    let reads = load_reads(memory, b + READS);
+    let writes = load_writes(memory, b + WRITES);
     Transaction {
         name: Stamp(memory[b]),
-        live: flag_of(memory[b + 1]),
+        live: flag_of(memory[b + LIVE]),
         bounds,
         reads,
-        recorded: memory[b + 5],
+        recorded: memory[b + RECORDED],
         writes,
-        written: memory[b + 6],
+        written: memory[b + WRITTEN],
     }
 }
 
 fn store_reads(memory: &mut [u32; WORDS], at: usize, reads: [Mark; limits::READS])
-    requires { ⌜ at + 48 ≤ 19170 ⌝ }
+    requires { ⌜ at + 48 ≤ wordCount ⌝ }
     ensures { λ r. ⌜ now (memory .exit) ≡ sets (now (memory .entry)) at (markWords reads) ⌝ }
 {
     let mut i = 0;
@@ -184,7 +187,7 @@ fn store_reads(memory: &mut [u32; WORDS], at: usize, reads: [Mark; limits::READS
 }
 
 fn store_writes(memory: &mut [u32; WORDS], at: usize, writes: [Write; limits::WRITES])
-    requires { ⌜ at + 32 ≤ 19170 ⌝ }
+    requires { ⌜ at + 32 ≤ wordCount ⌝ }
     ensures { λ r. ⌜ now (memory .exit) ≡ sets (now (memory .entry)) at (writeWords writes) ⌝ }
 {
     let mut i = 0;
@@ -203,14 +206,14 @@ pub fn store(memory: &mut [u32; WORDS], place: usize, t: Transaction)
     let b = base_of(place);
     let bounds = t.bounds;
     memory[b] = t.name.0;
-    memory[b + 1] = word_of_flag(t.live);
-    memory[b + 2] = wide(bounds.k1);
-    memory[b + 3] = wide(bounds.k2);
-    memory[b + 4] = wide(bounds.k3);
-    memory[b + 5] = t.recorded;
-    memory[b + 6] = t.written;
+    memory[b + LIVE] = word_of_flag(t.live);
+    memory[b + K1] = wide(bounds.k1);
+    memory[b + K2] = wide(bounds.k2);
+    memory[b + K3] = wide(bounds.k3);
+    memory[b + RECORDED] = t.recorded;
+    memory[b + WRITTEN] = t.written;
     let reads = t.reads;
     let writes = t.writes;
-    store_reads(memory, b + 7, reads);
-    store_writes(memory, b + 55, writes);
+    store_reads(memory, b + READS, reads);
+    store_writes(memory, b + WRITES, writes);
 }

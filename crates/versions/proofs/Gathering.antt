@@ -17,6 +17,7 @@ use Rattle.model.specs.Log.{Entry, madeAt}
 use Rattle.memory.specs.Memory.{entryAt, entries}
 use Rattle.versions.proofs.Laws.{log-more}
 use Rattle.versions.specs.Batch.{itemOf, batchOf}
+use Rattle.memory.specs.Layout.{stampsFrom}
 
 -- the items that count are the first sixteen versions
 pub items-of-batch : (es : List Entry) → take (batchOf es .count) (batchOf es .items) ≡ map itemOf (take 16 es)
@@ -48,10 +49,10 @@ module _ (es : List Entry) (e : Entry) where
 
 -- from the oldest end, i is the place looked at
 module _ (ws : List ℕ) (i t : ℕ) (b : Batch) (a : b ≡ batchOf (madeAt (entries ws i) t)) where
-  pub made-hit : (x : Item) (b′ : Batch) → getD ws (8194 + i) 0 ≡ t → x ≡ itemOf (entryAt ws i) → b′ ≡ added b x → b′ ≡ batchOf (madeAt (entries ws (i + 1)) t)
+  pub made-hit : (x : Item) (b′ : Batch) → getD ws (stampsFrom + i) 0 ≡ t → x ≡ itemOf (entryAt ws i) → b′ ≡ added b x → b′ ≡ batchOf (madeAt (entries ws (i + 1)) t)
   unfolding madeAt
   made-hit x b′ e f g = g ∙ rw (log-more ws i, eq-eqb _ _ e, f, a) (batch-more (madeAt (entries ws i) t) (entryAt ws i))
 
-  pub made-miss : (getD ws (8194 + i) 0 ≡ t → ⊥) → b ≡ batchOf (madeAt (entries ws (i + 1)) t)
+  pub made-miss : (getD ws (stampsFrom + i) 0 ≡ t → ⊥) → b ≡ batchOf (madeAt (entries ws (i + 1)) t)
   unfolding madeAt
   made-miss e = rw (log-more ws i, ne-eqb _ _ e) a

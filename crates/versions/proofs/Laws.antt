@@ -20,6 +20,7 @@ use Rattle.model.specs.Log.{versionOf, logged, newest, versions, ofKey}
 use Rattle.memory.specs.Memory.{entryAt, entries, lengthOf, logOf}
 use Rattle.words.specs.Installed.{laid, appended, installed}
 use Rattle.words.proofs.Installing.{length-log}
+use Rattle.memory.specs.Layout.{keysFrom, ordinalsFrom}
 
 module _ (ws : List ℕ) where
   pub log-back : (i : ℕ) → 0 < i → entries ws i ≡ entryAt ws (i - 1) ∷ entries ws (i - 1)
@@ -40,11 +41,11 @@ module _ (ws : List ℕ) where
     unfolding newest entries
     newest-over h = let z : i ≡ 0 = omega arith in rw z at a
 
-    pub newest-hit : 0 < i → getD ws (2 + (i - 1)) 0 ≡ x → versionOf (entryAt ws (i - 1)) ≡ w
+    pub newest-hit : 0 < i → getD ws (keysFrom + (i - 1)) 0 ≡ x → versionOf (entryAt ws (i - 1)) ≡ w
     unfolding newest
     newest-hit h e = rw (log-back i h, eq-eqb _ _ e) at a
 
-    pub newest-miss : 0 < i → (getD ws (2 + (i - 1)) 0 ≡ x → ⊥) → newest (entries ws (i - 1)) x ≡ w
+    pub newest-miss : 0 < i → (getD ws (keysFrom + (i - 1)) 0 ≡ x → ⊥) → newest (entries ws (i - 1)) x ≡ w
     unfolding newest
     newest-miss h e = rw (log-back i h, ne-eqb _ _ e) at a
 
@@ -53,15 +54,15 @@ module _ (ws : List ℕ) (x j i : ℕ) (w : Found) (a : logged (entries ws i) x 
   unfolding logged entries
   logged-over h = let z : i ≡ 0 = omega arith in rw z at a
 
-  pub logged-hit : 0 < i → getD ws (2 + (i - 1)) 0 ≡ x → getD ws (4098 + (i - 1)) 0 ≡ j → At (versionOf (entryAt ws (i - 1))) ≡ w
+  pub logged-hit : 0 < i → getD ws (keysFrom + (i - 1)) 0 ≡ x → getD ws (ordinalsFrom + (i - 1)) 0 ≡ j → At (versionOf (entryAt ws (i - 1))) ≡ w
   unfolding logged
   logged-hit h e f = rw (log-back ws i h, eq-eqb _ _ e, eq-eqb _ _ f) at a
 
-  pub logged-other-ordinal : 0 < i → getD ws (2 + (i - 1)) 0 ≡ x → (getD ws (4098 + (i - 1)) 0 ≡ j → ⊥) → logged (entries ws (i - 1)) x j ≡ w
+  pub logged-other-ordinal : 0 < i → getD ws (keysFrom + (i - 1)) 0 ≡ x → (getD ws (ordinalsFrom + (i - 1)) 0 ≡ j → ⊥) → logged (entries ws (i - 1)) x j ≡ w
   unfolding logged
   logged-other-ordinal h e f = rw (log-back ws i h, eq-eqb _ _ e, ne-eqb _ _ f) at a
 
-  pub logged-other-key : 0 < i → (getD ws (2 + (i - 1)) 0 ≡ x → ⊥) → logged (entries ws (i - 1)) x j ≡ w
+  pub logged-other-key : 0 < i → (getD ws (keysFrom + (i - 1)) 0 ≡ x → ⊥) → logged (entries ws (i - 1)) x j ≡ w
   unfolding logged
   logged-other-key h e = rw (log-back ws i h, ne-eqb _ _ e) at a
 

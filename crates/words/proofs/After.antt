@@ -37,6 +37,7 @@ use Rattle.memory.proofs.Laws.{tab-same, tab-set, load-frame, log-frame, load-s
 use Rattle.words.specs.Installed.{installed}
 use Rattle.words.proofs.Installing.{length-log, length-installed, installed-other, log-installed}
 use Rattle.words.specs.After.{at, closed, onStarted, onVersion, onDone, onCommit, change, after, cleared, openedWords, played, answered, InRange, start, read, note, write, tune, distance, abort, commit, message, latest}
+use Rattle.memory.specs.Layout.{clockAt, liveAt, readsFrom, wordCount, writesFrom}
 
 good-recorded : (t : Transaction) (m : Mark) → Good t → Good (recorded t m)
 unfolding recorded
@@ -57,17 +58,17 @@ counted t g i = go (decLt i (t .written))
         rw (List·getD-eq-default (take (t .written) (t .writes)) noWrite past) (record { sfits = omega arith })
 
 -- ---- a transaction ends
-module _ (vs : List ℕ) (whole : length vs ≡ 19170) (p : ℕ) where
-  rest : (j : ℕ) → (j ≡ baseOf p + 1 → ⊥) → getD (closed vs p) j 0 ≡ getD vs j 0
-  rest j h = getD-set-other vs (baseOf p + 1) j 0 0 h
+module _ (vs : List ℕ) (whole : length vs ≡ wordCount) (p : ℕ) where
+  rest : (j : ℕ) → (j ≡ baseOf p + liveAt → ⊥) → getD (closed vs p) j 0 ≡ getD vs j 0
+  rest j h = getD-set-other vs (baseOf p + liveAt) j 0 0 h
 
   closed-same : loaded (closed vs p) p ≡ ended (loaded vs p)
   unfolding loaded
   closed-same =
-      let reads : tab (λ (i : ℕ). markAt (closed vs p) (baseOf p + 7 + 3 * i)) 16 ≡ tab (λ (i : ℕ). markAt vs (baseOf p + 7 + 3 * i)) 16 = tab-same noMark _ _ 16 (λ i k. rw (rest (baseOf p + 7 + 3 * i) (λ e. omega arith), rest (baseOf p + 7 + 3 * i + 1) (λ e. omega arith), rest (baseOf p + 7 + 3 * i + 2) (λ e. omega arith))) in
-      let writes : tab (λ (i : ℕ). writeAt (closed vs p) (baseOf p + 55 + 2 * i)) 16 ≡ tab (λ (i : ℕ). writeAt vs (baseOf p + 55 + 2 * i)) 16 = tab-same noWrite _ _ 16 (λ i k. rw (rest (baseOf p + 55 + 2 * i) (λ e. omega arith), rest (baseOf p + 55 + 2 * i + 1) (λ e. omega arith))) in
+      let reads : tab (λ (i : ℕ). markAt (closed vs p) (baseOf p + readsFrom + 3 * i)) 16 ≡ tab (λ (i : ℕ). markAt vs (baseOf p + readsFrom + 3 * i)) 16 = tab-same noMark _ _ 16 (λ i k. rw (rest (baseOf p + readsFrom + 3 * i) (λ e. omega arith), rest (baseOf p + readsFrom + 3 * i + 1) (λ e. omega arith), rest (baseOf p + readsFrom + 3 * i + 2) (λ e. omega arith))) in
+      let writes : tab (λ (i : ℕ). writeAt (closed vs p) (baseOf p + writesFrom + 2 * i)) 16 ≡ tab (λ (i : ℕ). writeAt vs (baseOf p + writesFrom + 2 * i)) 16 = tab-same noWrite _ _ 16 (λ i k. rw (rest (baseOf p + writesFrom + 2 * i) (λ e. omega arith), rest (baseOf p + writesFrom + 2 * i + 1) (λ e. omega arith))) in
       rw
-      (reads, writes, getD-set-same vs (baseOf p + 1) 0 0 (omega arith), rest (baseOf p) (λ e. omega arith), rest (baseOf p + 2) (λ e. omega arith), rest (baseOf p + 3) (λ e. omega arith), rest (baseOf p + 4) (λ e. omega arith), rest (baseOf p + 5) (λ e. omega arith), rest (baseOf p + 6) (λ e. omega arith))
+      (reads, writes, getD-set-same vs (baseOf p + liveAt) 0 0 (omega arith), rest (baseOf p) (λ e. omega arith), rest (baseOf p + 2) (λ e. omega arith), rest (baseOf p + 3) (λ e. omega arith), rest (baseOf p + 4) (λ e. omega arith), rest (baseOf p + 5) (λ e. omega arith), rest (baseOf p + 6) (λ e. omega arith))
 
   log-closed : logOf (closed vs p) ≡ logOf vs
   log-closed = rw (rest 1 (λ e. omega arith)) (log-frame vs (closed vs p) (lengthOf vs) (omega arith) (λ j l h. rest j (λ e. omega arith)))
@@ -76,11 +77,11 @@ module _ (vs : List ℕ) (whole : length vs ≡ 19170) (p : ℕ) where
   unfolding placesOf
   places-closed below = tab-set noTransaction (loaded vs) (loaded (closed vs p)) 32 p _ below closed-same (λ q h e. load-frame vs (closed vs p) q (λ j l k. rest j (λ z. omega arith)))
 
-  state-closed : p < 32 → stateOf (closed vs p) ≡ record { clock = getD vs 0 0; log = logOf vs; place = set (placesOf vs) p (ended (loaded vs p)) }
+  state-closed : p < 32 → stateOf (closed vs p) ≡ record { clock = getD vs clockAt 0; log = logOf vs; place = set (placesOf vs) p (ended (loaded vs p)) }
   state-closed below = rw (places-closed below, log-closed, rest 0 (λ e. omega arith))
 
 -- ---- the two calls
-module _ (ws : List ℕ) (whole : length ws ≡ 19170) (n : ℕ) where
+module _ (ws : List ℕ) (whole : length ws ≡ wordCount) (n : ℕ) where
   abbrev t : Transaction
   t = loaded ws (at ws n)
 
@@ -104,7 +105,7 @@ module _ (ws : List ℕ) (whole : length ws ≡ 19170) (n : ℕ) where
     abbrev vs : List ℕ
     vs = installed ws s (writesOf t)
 
-    long : length vs ≡ 19170
+    long : length vs ≡ wordCount
     long = length-installed (writesOf t) ws s ∙ whole
 
     desk : (q : ℕ) → loaded vs q ≡ loaded ws q
@@ -116,17 +117,17 @@ module _ (ws : List ℕ) (whole : length ws ≡ 19170) (n : ℕ) where
 
     state-granted : stateOf (set (closed vs (at ws n)) 0 s) ≡ record { clock = s; log = log.installed (logOf ws) s (writesOf t); place = set (placesOf ws) (at ws n) (ended t) }
     state-granted =
-        state-clock (closed vs (at ws n)) s (omega (arith, length-set vs (baseOf (at ws n) + 1) 0, long))
+        state-clock (closed vs (at ws n)) s (omega (arith, length-set vs (baseOf (at ws n) + liveAt) 0, long))
         ∙ rw
         (log-closed vs long (at ws n), places-closed vs long (at ws n) live, desks, desk (at ws n), log-installed (writesOf t) ws s whole room (counted t (good-loaded ws (at ws n))))
 
   pub state-commit : stateOf (after ws (Commit n)) ≡ step (stateOf ws) (Commit n) .state
   unfolding step checksOf finalOf order change
   state-commit =
-      go (leb 32 (at ws n)) refl (certified (logOf ws) (transaction (stateOf ws) n)) refl (ltb 4096 (length (logOf ws) + length (writesOf (transaction (stateOf ws) n)))) refl (eqb (getD ws 0 0) 4294967295) refl
+      go (leb 32 (at ws n)) refl (certified (logOf ws) (transaction (stateOf ws) n)) refl (ltb 4096 (length (logOf ws) + length (writesOf (transaction (stateOf ws) n)))) refl (eqb (getD ws clockAt 0) 4294967295) refl
     where
       go : (b : Bool) → leb 32 (at ws n) ≡ b → (c : Certified) → certified (logOf ws) (transaction (stateOf ws) n) ≡ c → (d : Bool) → ltb 4096 (length (logOf ws) + length (writesOf (transaction (stateOf ws) n))) ≡ d
-          → (q : Bool) → eqb (getD ws 0 0) 4294967295 ≡ q
+          → (q : Bool) → eqb (getD ws clockAt 0) 4294967295 ≡ q
           → stateOf (after ws (Commit n)) ≡ step (stateOf ws) (Commit n) .state
       go true e1 c e2 d e3 q e4 = rw e1
       go false e1 (Broken r) e2 d e3 q e4 = rw (e1, e2) (state-closed ws whole (at ws n) (leb-false 32 _ e1) ∙ rw (places-at ws (at ws n) (leb-false 32 _ e1)))
@@ -137,14 +138,14 @@ module _ (ws : List ℕ) (whole : length ws ≡ 19170) (n : ℕ) where
           let there : transaction (stateOf ws) n ≡ t = places-at ws (at ws n) live in
           let over : length (logOf ws) + length (writesOf (transaction (stateOf ws) n)) ≤ 4096 = ltb-false 4096 _ e3 in
           let size : lengthOf ws + length (writesOf t) ≤ 4096 = rw (length-log ws (lengthOf ws), there) at over in
-          rw (e1, e2, e3, e4) (state-granted live size (suc (getD ws 0 0)) ∙ rw there)
+          rw (e1, e2, e3, e4) (state-granted live size (suc (getD ws clockAt 0)) ∙ rw there)
 
 -- ---- opening
 pub good-spare : Good (ended (fresh 0))
 good-spare = let g = good-fresh 0 in record { reads = g .reads; writes = g .writes; k1 = g .k1; k2 = g .k2; k3 = g .k3; values = g .values }
 
-module _ (ws : List ℕ) (whole : length ws ≡ 19170) where
-  pub length-cleared : (n : ℕ) → length (cleared ws n) ≡ 19170
+module _ (ws : List ℕ) (whole : length ws ≡ wordCount) where
+  pub length-cleared : (n : ℕ) → length (cleared ws n) ≡ wordCount
   unfolding cleared
   length-cleared zero = whole
   length-cleared (suc n) = length-stored (cleared ws n) n (ended (fresh 0)) ∙ length-cleared n
@@ -162,7 +163,7 @@ all-spare : (us : List ℕ) (t : Transaction) → ((q : ℕ) → q < 32 → load
 unfolding placesOf tab
 all-spare us t h = tab-same noTransaction (loaded us) (λ (q : ℕ). t) 32 h
 
-state-opened : (ms : List ℕ) (c : ℕ) → length ms ≡ 19170 → placesOf ms ≡ replicate 32 (ended (fresh 0)) → stateOf (set (set ms 0 c) 1 0) ≡ opened c
+state-opened : (ms : List ℕ) (c : ℕ) → length ms ≡ wordCount → placesOf ms ≡ replicate 32 (ended (fresh 0)) → stateOf (set (set ms 0 c) 1 0) ≡ opened c
 unfolding placesOf entries
 state-opened ms c whole e =
     let us : List ℕ = set ms 0 c in
@@ -173,14 +174,14 @@ state-opened ms c whole e =
     rw (clock, none, desk, e)
 
 -- "Opening a master gives the clock's first value": a master opened over any words is the first state of a session
-pub opens : (ws : List ℕ) (c : ℕ) → length ws ≡ 19170 → stateOf (openedWords ws c) ≡ opened c
+pub opens : (ws : List ℕ) (c : ℕ) → length ws ≡ wordCount → stateOf (openedWords ws c) ≡ opened c
 opens ws c whole = state-opened (cleared ws 32) c (length-cleared ws whole 32) (all-spare (cleared ws 32) (ended (fresh 0)) (spare-at ws whole 32 (omega arith)))
 
 -- ---- every call
 good-tuned : (t : Transaction) (k1 k2 k3 : ℕ) → k1 < 65536 → k2 < 65536 → k3 < 65536 → Good t → Good (tuned t (triple k1 k2 k3))
 good-tuned t k1 k2 k3 h1 h2 h3 g = record { reads = g .reads; writes = g .writes; k1 = h1; k2 = h2; k3 = h3; values = g .values }
 
-module _ (ws : List ℕ) (whole : length ws ≡ 19170) where
+module _ (ws : List ℕ) (whole : length ws ≡ wordCount) where
   -- one transaction becomes another that its words can say
   becomes : (n : ℕ) (f : Transaction → Transaction) → ((t : Transaction) → Good t → Good (f t)) → at ws n < 32
       → stateOf (stored ws (at ws n) (f (loaded ws (at ws n)))) ≡ withTransaction (stateOf ws) n (f (transaction (stateOf ws) n))
@@ -191,16 +192,16 @@ module _ (ws : List ℕ) (whole : length ws ≡ 19170) where
 
   state-begin : stateOf (after ws Start) ≡ step (stateOf ws) Start .state
   unfolding step checksOf finalOf order change
-  state-begin = go (leb 32 (freePlace (placesOf ws))) refl (eqb (getD ws 0 0) 4294967295) refl
+  state-begin = go (leb 32 (freePlace (placesOf ws))) refl (eqb (getD ws clockAt 0) 4294967295) refl
     where
-      go : (b : Bool) → leb 32 (freePlace (placesOf ws)) ≡ b → (d : Bool) → eqb (getD ws 0 0) 4294967295 ≡ d → stateOf (after ws Start) ≡ step (stateOf ws) Start .state
+      go : (b : Bool) → leb 32 (freePlace (placesOf ws)) ≡ b → (d : Bool) → eqb (getD ws clockAt 0) 4294967295 ≡ d → stateOf (after ws Start) ≡ step (stateOf ws) Start .state
       go true e1 d e2 = rw e1
       go false e1 true e2 = rw (e1, e2)
       go false e1 false e2 =
-          let us : List ℕ = stored ws (freePlace (placesOf ws)) (fresh (suc (getD ws 0 0))) in
+          let us : List ℕ = stored ws (freePlace (placesOf ws)) (fresh (suc (getD ws clockAt 0))) in
           rw (e1, e2)
-          (state-clock us (suc (getD ws 0 0)) (omega (arith, length-stored ws (freePlace (placesOf ws)) (fresh (suc (getD ws 0 0)))))
-          ∙ rw (log-stored ws whole _ (leb-false 32 _ e1) (fresh (suc (getD ws 0 0))) (good-fresh _), places-stored ws whole _ (leb-false 32 _ e1) (fresh (suc (getD ws 0 0))) (good-fresh _)))
+          (state-clock us (suc (getD ws clockAt 0)) (omega (arith, length-stored ws (freePlace (placesOf ws)) (fresh (suc (getD ws clockAt 0)))))
+          ∙ rw (log-stored ws whole _ (leb-false 32 _ e1) (fresh (suc (getD ws clockAt 0))) (good-fresh _), places-stored ws whole _ (leb-false 32 _ e1) (fresh (suc (getD ws clockAt 0))) (good-fresh _)))
 
   state-note : (n k o : ℕ) → stateOf (after ws (Note n k o)) ≡ step (stateOf ws) (Note n k o) .state
   unfolding step checksOf finalOf order change
@@ -338,25 +339,25 @@ length-change ws (Note n k o) r = on-version (λ (us : List ℕ). length us ≡ 
 length-change ws (Write n k v) r = on-done (λ (us : List ℕ). length us ≡ length ws) (length-stored ws (at ws n) (written (loaded ws (at ws n)) k v)) refl r
 length-change ws (Tune n k1 k2 k3) r = on-done (λ (us : List ℕ). length us ≡ length ws) (length-stored ws (at ws n) (tuned (loaded ws (at ws n)) (triple k1 k2 k3))) refl r
 length-change ws (Distance n i) r = refl
-length-change ws (Abort n) r = on-done (λ (us : List ℕ). length us ≡ length ws) (length-set ws (baseOf (at ws n) + 1) 0) refl r
+length-change ws (Abort n) r = on-done (λ (us : List ℕ). length us ≡ length ws) (length-set ws (baseOf (at ws n) + liveAt) 0) refl r
 length-change ws (Commit n) r =
     on-commit (λ (us : List ℕ). length us ≡ length ws)
     (λ m. let vs : List ℕ = installed ws m (writesOf (loaded ws (at ws n))) in
-    length-set (closed vs (at ws n)) 0 m ∙ length-set vs (baseOf (at ws n) + 1) 0 ∙ length-installed (writesOf (loaded ws (at ws n))) ws m)
-    (length-set ws (baseOf (at ws n) + 1) 0)
+    length-set (closed vs (at ws n)) 0 m ∙ length-set vs (baseOf (at ws n) + liveAt) 0 ∙ length-installed (writesOf (loaded ws (at ws n))) ws m)
+    (length-set ws (baseOf (at ws n) + liveAt) 0)
     refl
     r
 length-change ws (Message t) r = refl
 length-change ws (Newest k) r = refl
 
 -- calls one behind the other on one memory reach the state of the session, and answer its replies
-pub played-state : (cs : List Call) (ws : List ℕ) → length ws ≡ 19170 → Every InRange cs → stateOf (played ws cs) ≡ reached (stateOf ws) cs
+pub played-state : (cs : List Call) (ws : List ℕ) → length ws ≡ wordCount → Every InRange cs → stateOf (played ws cs) ≡ reached (stateOf ws) cs
 unfolding played reached
 played-state [] ws whole none = refl
 played-state (c ∷ cs) ws whole (also h hs) =
     played-state cs (after ws c) (length-change ws c (step (stateOf ws) c .reply) ∙ whole) hs ∙ ap (λ (s : State). reached s cs) (state-after ws whole c h)
 
-pub played-replies : (cs : List Call) (ws : List ℕ) → length ws ≡ 19170 → Every InRange cs → answered ws cs ≡ replies (stateOf ws) cs
+pub played-replies : (cs : List Call) (ws : List ℕ) → length ws ≡ wordCount → Every InRange cs → answered ws cs ≡ replies (stateOf ws) cs
 unfolding answered replies
 played-replies [] ws whole none = refl
 played-replies (c ∷ cs) ws whole (also h hs) =

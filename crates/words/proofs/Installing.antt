@@ -19,6 +19,7 @@ use Rattle.model.specs.Log.{Entry, versions, next}
 use Rattle.model.specs.Log as log
 use Rattle.memory.specs.Memory.{entries, lengthOf, logOf}
 use Rattle.words.specs.Installed.{laid, appended, installed}
+use Rattle.memory.specs.Layout.{deskFrom, keysFrom, ordinalsFrom, stampsFrom, valuesFrom, wordCount}
 
 module _ (ws : List ℕ) where
   pub length-log : (n : ℕ) → length (entries ws n) ≡ n
@@ -30,64 +31,64 @@ module _ (ws : List ℕ) where
 module _ (ws : List ℕ) (at key ordinal stamp value : ℕ) where
   -- after one store, two, three, four
   abbrev one : List ℕ
-  one = set ws (2 + at) key
+  one = set ws (keysFrom + at) key
 
   abbrev two : List ℕ
-  two = set one (4098 + at) ordinal
+  two = set one (ordinalsFrom + at) ordinal
 
   abbrev three : List ℕ
-  three = set two (8194 + at) stamp
+  three = set two (stampsFrom + at) stamp
 
   abbrev four : List ℕ
-  four = set three (12290 + at) value
+  four = set three (valuesFrom + at) value
 
   -- a word that is none of the five
-  pub laid-other : (j : ℕ) → (j ≡ 1 → ⊥) → (j ≡ 2 + at → ⊥) → (j ≡ 4098 + at → ⊥) → (j ≡ 8194 + at → ⊥) → (j ≡ 12290 + at → ⊥)
+  pub laid-other : (j : ℕ) → (j ≡ 1 → ⊥) → (j ≡ keysFrom + at → ⊥) → (j ≡ ordinalsFrom + at → ⊥) → (j ≡ stampsFrom + at → ⊥) → (j ≡ valuesFrom + at → ⊥)
       → getD (laid ws at key ordinal stamp value) j 0 ≡ getD ws j 0
   laid-other j h1 hk ho hs hv =
       getD-set-other four 1 j (at + 1) 0 h1
-      ∙ getD-set-other three (12290 + at) j value 0 hv
-      ∙ getD-set-other two (8194 + at) j stamp 0 hs
-      ∙ getD-set-other one (4098 + at) j ordinal 0 ho
-      ∙ getD-set-other ws (2 + at) j key 0 hk
+      ∙ getD-set-other three (valuesFrom + at) j value 0 hv
+      ∙ getD-set-other two (stampsFrom + at) j stamp 0 hs
+      ∙ getD-set-other one (ordinalsFrom + at) j ordinal 0 ho
+      ∙ getD-set-other ws (keysFrom + at) j key 0 hk
 
   pub length-laid : length (laid ws at key ordinal stamp value) ≡ length ws
   length-laid = simp length-set
 
-  module _ (whole : length ws ≡ 19170) (room : at < 4096) where
+  module _ (whole : length ws ≡ wordCount) (room : at < 4096) where
     laid-length : getD (laid ws at key ordinal stamp value) 1 0 ≡ at + 1
     laid-length = getD-set-same four 1 (at + 1) 0 (simp length-set (omega arith))
 
-    laid-value : getD (laid ws at key ordinal stamp value) (12290 + at) 0 ≡ value
-    laid-value = getD-set-other four 1 (12290 + at) (at + 1) 0 (λ e. omega arith) ∙ getD-set-same three (12290 + at) value 0 (simp length-set (omega arith))
+    laid-value : getD (laid ws at key ordinal stamp value) (valuesFrom + at) 0 ≡ value
+    laid-value = getD-set-other four 1 (valuesFrom + at) (at + 1) 0 (λ e. omega arith) ∙ getD-set-same three (valuesFrom + at) value 0 (simp length-set (omega arith))
 
-    laid-stamp : getD (laid ws at key ordinal stamp value) (8194 + at) 0 ≡ stamp
+    laid-stamp : getD (laid ws at key ordinal stamp value) (stampsFrom + at) 0 ≡ stamp
     laid-stamp =
-        getD-set-other four 1 (8194 + at) (at + 1) 0 (λ e. omega arith)
-        ∙ getD-set-other three (12290 + at) (8194 + at) value 0 (λ e. omega arith)
-        ∙ getD-set-same two (8194 + at) stamp 0 (simp length-set (omega arith))
+        getD-set-other four 1 (stampsFrom + at) (at + 1) 0 (λ e. omega arith)
+        ∙ getD-set-other three (valuesFrom + at) (stampsFrom + at) value 0 (λ e. omega arith)
+        ∙ getD-set-same two (stampsFrom + at) stamp 0 (simp length-set (omega arith))
 
-    laid-ordinal : getD (laid ws at key ordinal stamp value) (4098 + at) 0 ≡ ordinal
+    laid-ordinal : getD (laid ws at key ordinal stamp value) (ordinalsFrom + at) 0 ≡ ordinal
     laid-ordinal =
-        getD-set-other four 1 (4098 + at) (at + 1) 0 (λ e. omega arith)
-        ∙ getD-set-other three (12290 + at) (4098 + at) value 0 (λ e. omega arith)
-        ∙ getD-set-other two (8194 + at) (4098 + at) stamp 0 (λ e. omega arith)
-        ∙ getD-set-same one (4098 + at) ordinal 0 (simp length-set (omega arith))
+        getD-set-other four 1 (ordinalsFrom + at) (at + 1) 0 (λ e. omega arith)
+        ∙ getD-set-other three (valuesFrom + at) (ordinalsFrom + at) value 0 (λ e. omega arith)
+        ∙ getD-set-other two (stampsFrom + at) (ordinalsFrom + at) stamp 0 (λ e. omega arith)
+        ∙ getD-set-same one (ordinalsFrom + at) ordinal 0 (simp length-set (omega arith))
 
-    laid-key : getD (laid ws at key ordinal stamp value) (2 + at) 0 ≡ key
+    laid-key : getD (laid ws at key ordinal stamp value) (keysFrom + at) 0 ≡ key
     laid-key =
-        getD-set-other four 1 (2 + at) (at + 1) 0 (λ e. omega arith)
-        ∙ getD-set-other three (12290 + at) (2 + at) value 0 (λ e. omega arith)
-        ∙ getD-set-other two (8194 + at) (2 + at) stamp 0 (λ e. omega arith)
-        ∙ getD-set-other one (4098 + at) (2 + at) ordinal 0 (λ e. omega arith)
-        ∙ getD-set-same ws (2 + at) key 0 (omega arith)
+        getD-set-other four 1 (keysFrom + at) (at + 1) 0 (λ e. omega arith)
+        ∙ getD-set-other three (valuesFrom + at) (keysFrom + at) value 0 (λ e. omega arith)
+        ∙ getD-set-other two (stampsFrom + at) (keysFrom + at) stamp 0 (λ e. omega arith)
+        ∙ getD-set-other one (ordinalsFrom + at) (keysFrom + at) ordinal 0 (λ e. omega arith)
+        ∙ getD-set-same ws (keysFrom + at) key 0 (omega arith)
 
     laid-before : (n : ℕ) → n ≤ at → entries (laid ws at key ordinal stamp value) n ≡ entries ws n
     unfolding entries
     laid-before zero h = refl
     laid-before (suc n) h =
         rw
-        (laid-other (2 + n) (λ e. omega arith) (λ e. omega arith) (λ e. omega arith) (λ e. omega arith) (λ e. omega arith), laid-other (4098 + n) (λ e. omega arith) (λ e. omega arith) (λ e. omega arith) (λ e. omega arith) (λ e. omega arith), laid-other (8194 + n) (λ e. omega arith) (λ e. omega arith) (λ e. omega arith) (λ e. omega arith) (λ e. omega arith), laid-other (12290 + n) (λ e. omega arith) (λ e. omega arith) (λ e. omega arith) (λ e. omega arith) (λ e. omega arith), laid-before n (omega arith))
+        (laid-other (keysFrom + n) (λ e. omega arith) (λ e. omega arith) (λ e. omega arith) (λ e. omega arith) (λ e. omega arith), laid-other (ordinalsFrom + n) (λ e. omega arith) (λ e. omega arith) (λ e. omega arith) (λ e. omega arith) (λ e. omega arith), laid-other (stampsFrom + n) (λ e. omega arith) (λ e. omega arith) (λ e. omega arith) (λ e. omega arith) (λ e. omega arith), laid-other (valuesFrom + n) (λ e. omega arith) (λ e. omega arith) (λ e. omega arith) (λ e. omega arith) (λ e. omega arith), laid-before n (omega arith))
 
     pub log-laid : logOf (laid ws at key ordinal stamp value) ≡ record { key = key; ordinal = ordinal; stamp = stamp; value = toZ w32 value } ∷ entries ws at
     unfolding entries
@@ -109,18 +110,18 @@ module _ (ws : List ℕ) (stamp : ℕ) (w : Write) where
       go false = refl
 
   -- the clock and the desk stay
-  pub appended-other : (j : ℕ) → (j ≡ 0) ⊎ (16386 ≤ j) → getD (appended ws stamp w) j 0 ≡ getD ws j 0
+  pub appended-other : (j : ℕ) → (j ≡ 0) ⊎ (deskFrom ≤ j) → getD (appended ws stamp w) j 0 ≡ getD ws j 0
   unfolding appended
   appended-other j h = go (ltb (lengthOf ws) 4096) refl h
     where
-      go : (b : Bool) → ltb (lengthOf ws) 4096 ≡ b → (j ≡ 0) ⊎ (16386 ≤ j) → getD (cond b (laid ws (lengthOf ws) (w .key) (versions (logOf ws) (w .key) + 1) stamp (ofZ w32 (w .value))) ws) j 0 ≡ getD ws j 0
+      go : (b : Bool) → ltb (lengthOf ws) 4096 ≡ b → (j ≡ 0) ⊎ (deskFrom ≤ j) → getD (cond b (laid ws (lengthOf ws) (w .key) (versions (logOf ws) (w .key) + 1) stamp (ofZ w32 (w .value))) ws) j 0 ≡ getD ws j 0
       go true e (inl h) = laid-other ws (lengthOf ws) (w .key) (versions (logOf ws) (w .key) + 1) stamp (ofZ w32 (w .value)) j (λ q. omega arith) (λ q. omega arith) (λ q. omega arith) (λ q. omega arith) (λ q. omega arith)
       go true e (inr h) =
           let k : lengthOf ws < 4096 = ltb-true (lengthOf ws) 4096 e in
           laid-other ws (lengthOf ws) (w .key) (versions (logOf ws) (w .key) + 1) stamp (ofZ w32 (w .value)) j (λ q. omega arith) (λ q. omega arith) (λ q. omega arith) (λ q. omega arith) (λ q. omega arith)
       go false e h = refl
 
-  module _ (whole : length ws ≡ 19170) (room : lengthOf ws < 4096) where
+  module _ (whole : length ws ≡ wordCount) (room : lengthOf ws < 4096) where
     pub log-appended : SFits w32 (w .value) → logOf (appended ws stamp w) ≡ next (logOf ws) stamp w ∷ logOf ws
     unfolding appended
     log-appended f =
@@ -135,12 +136,12 @@ unfolding installed
 length-installed [] ws stamp = refl
 length-installed (w ∷ l) ws stamp = length-installed l (appended ws stamp w) stamp ∙ length-appended ws stamp w
 
-pub installed-other : (l : List Write) (ws : List ℕ) (stamp j : ℕ) → (j ≡ 0) ⊎ (16386 ≤ j) → getD (installed ws stamp l) j 0 ≡ getD ws j 0
+pub installed-other : (l : List Write) (ws : List ℕ) (stamp j : ℕ) → (j ≡ 0) ⊎ (deskFrom ≤ j) → getD (installed ws stamp l) j 0 ≡ getD ws j 0
 unfolding installed
 installed-other [] ws stamp j h = refl
 installed-other (w ∷ l) ws stamp j h = installed-other l (appended ws stamp w) stamp j h ∙ appended-other ws stamp w j h
 
-pub log-installed : (l : List Write) (ws : List ℕ) (stamp : ℕ) → length ws ≡ 19170 → lengthOf ws + length l ≤ 4096 → ((i : ℕ) → SFits w32 (getD l i noWrite .value))
+pub log-installed : (l : List Write) (ws : List ℕ) (stamp : ℕ) → length ws ≡ wordCount → lengthOf ws + length l ≤ 4096 → ((i : ℕ) → SFits w32 (getD l i noWrite .value))
     → logOf (installed ws stamp l) ≡ log.installed (logOf ws) stamp l
 unfolding installed log.installed
 log-installed [] ws stamp whole room f = refl

@@ -13,6 +13,7 @@ use Rattle.model.specs.Call.{Call, Start, Read, Note, Write, Tune, Distance, Ab
 use Rattle.model.specs.Step.{step, marked}
 use Rattle.memory.specs.Memory.{baseOf, loaded, stored, placesOf, stateOf}
 use Rattle.words.specs.Installed.{installed}
+use Rattle.memory.specs.Layout.{liveAt}
 
 -- the place of the open transaction of a name
 abbrev pub at : List ℕ → ℕ → ℕ
@@ -20,7 +21,7 @@ at ws n = placeOf (placesOf ws) n
 
 -- a transaction's end is its second word
 abbrev pub closed : List ℕ → ℕ → List ℕ
-closed ws p = set ws (baseOf p + 1) 0
+closed ws p = set ws (baseOf p + liveAt) 0
 
 -- what a reply of a kind does, and what any other does
 abbrev pub onStarted : {A : Type 0} → (ℕ → A) → A → Reply → A
