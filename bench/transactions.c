@@ -77,6 +77,9 @@ static void run(uint32_t count, uint32_t every) {
 
 int main(void) {
     uint32_t count, every;
+    /* One thread and no statistics: SQLite at its fastest. */
+    sqlite3_config(SQLITE_CONFIG_SINGLETHREAD);
+    sqlite3_config(SQLITE_CONFIG_MEMSTATUS, 0);
     must(sqlite3_open(":memory:", &db) == SQLITE_OK);
     /* The primary key of a table without rowid is its index: the newest version of a key is one step down a tree. */
     must(sqlite3_exec(db, "CREATE TABLE version (key INTEGER, ordinal INTEGER, stamp INTEGER, value INTEGER, PRIMARY KEY (key, ordinal)) WITHOUT ROWID", NULL, NULL, NULL) == SQLITE_OK);
