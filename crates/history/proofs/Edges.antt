@@ -1,8 +1,6 @@
--- Document 01's edges, by computation: each line's numbers at the ends of their ranges and just past them, what is not of the form, and
--- the worked history.
-use Prim.Native.Nat.{ℕ}
+-- Document 01's edges, by computation: each line's numbers at the ends of their ranges and just past them, and what is not of the form.
 use mathlib.Core.Path.{_≡_, refl}
-use mathlib.Core.List.{List, [], _∷_}
+use mathlib.Core.List.{[], _∷_}
 use Rattle.decimal.specs.Text.{isDigit, spelt, decimal}
 use Rattle.decimal.specs.Read.{more, digits, unsigned, negative, fieldAt, asNatural, naturalAt, naturalBehindTab, onNumber}
 use Rattle.units.specs.Bounds.{triple}
@@ -10,7 +8,6 @@ use Rattle.records.specs.declared.Record.the-variants.{Start, Tune, Read, Write
 use Rattle.history.specs.declared.Line.the-variants.{Taken, Bad, End}
 use Rattle.history.specs.Line.{ended, tuneAt, readAt, writeAt, behindName, lineAt}
 use Rattle.history.specs.Text.{textOf}
-use Rattle.history.specs.Records.{whole, behind, onLine, recordsFrom, recordsOf}
 
 pub ranges :
     (lineAt (textOf (Start 0)) 0 ≡ Bad)
@@ -48,12 +45,3 @@ pub forms :
     × (lineAt (120 ∷ 9 ∷ 49 ∷ 10 ∷ []) 0 ≡ Bad)
 unfolding lineAt behindName tuneAt readAt writeAt ended onNumber naturalBehindTab naturalAt asNatural fieldAt digits more unsigned negative isDigit
 forms = (refl, refl, refl, refl, refl, refl, refl, refl, refl, refl)
-
--- `s 1`, `s 2`, `w 1 5`, `c 1`, `r 2 5 1`, `c 2`
-abbrev worked : List ℕ
-worked =
-    115 ∷ 9 ∷ 49 ∷ 10 ∷ 115 ∷ 9 ∷ 50 ∷ 10 ∷ 119 ∷ 9 ∷ 49 ∷ 9 ∷ 53 ∷ 10 ∷ 99 ∷ 9 ∷ 49 ∷ 10 ∷ 114 ∷ 9 ∷ 50 ∷ 9 ∷ 53 ∷ 9 ∷ 49 ∷ 10 ∷ 99 ∷ 9 ∷ 50 ∷ 10 ∷ []
-
-pub worked-records : recordsOf worked ≡ whole (Start 1 ∷ Start 2 ∷ Write 1 5 ∷ Commit 1 ∷ Read 2 5 1 ∷ Commit 2 ∷ [])
-unfolding recordsFrom behind onLine lineAt behindName tuneAt readAt writeAt ended onNumber naturalBehindTab naturalAt asNatural fieldAt digits more unsigned negative isDigit
-worked-records = refl

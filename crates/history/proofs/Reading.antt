@@ -218,14 +218,6 @@ module _ (s : List ℕ) (at : ℕ) where
       go Bad q h = q
       go End q h = absurd (omega (arith, end-exactly .0 q, h .0))
 
-  -- at a place stands one record, and it ends at one place
-  pub written-one : (q r : Record) (d e : ℕ) → Written s at q d → Written s at r e → (q ≡ r) × (d ≡ e)
-  written-one q r d e a b =
-      let same : Taken q d ≡ Taken r e = sym (line-read s at q d a) ∙ line-read s at r e b in
-      let x : q ≡ r = cc in
-      let y : d ≡ e = cc in
-      (x, y)
-
 -- reading what was written gives the record back, whatever follows it
 pub line-back : (s : List ℕ) (at : ℕ) (r : Record) (rest : List ℕ) → drop at s ≡ textOf r ++ rest → InForm r → lineAt s at ≡ Taken r (at + length (textOf r))
 line-back s at r rest q form =

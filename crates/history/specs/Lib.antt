@@ -1,4 +1,3 @@
--- The definitions that the contracts cite, and what the theorems say: a line read, its text, a whole history.
+-- The definitions that the contracts cite, and what the theorems say: a line read, and its text.
 pub mod Line
 pub mod Text
-pub mod Records

@@ -51,3 +51,20 @@ behindName s letter t at =
 -- the line that begins at a place
 unfoldable pub lineAt : List ℕ → ℕ → Line
 lineAt s at = cond (leb (length s) at) End (number s (at + 1) 1 (λ t e. behindName s (getD s at 0) t e))
+
+-- ---- the reply in document 01's numbers
+
+-- a record and the place of the next line; a refusal by its number; or that nothing is left
+pub data LineReply : Type 0 where
+  aRecord : Record → (next : ℕ) → LineReply
+  refusedWith : (number : ℕ) → LineReply
+  nothingLeft : LineReply
+
+-- 13: "history line not of the form, or last line unended"
+unfoldable pub lineReply : Line → LineReply
+lineReply (Taken r next) = aRecord r next
+lineReply Bad = refusedWith 13
+lineReply End = nothingLeft
+
+unfoldable pub lineSaid : List ℕ → ℕ → LineReply
+lineSaid s at = lineReply (lineAt s at)

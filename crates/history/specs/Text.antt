@@ -2,7 +2,7 @@
 use Prim.Native.Nat.{ℕ, _≤_}
 use mathlib.Core.List.{List, [], _∷_, _++_}
 use lib.IntN.{pos}
-use Rattle.decimal.specs.Text.{field}
+use Rattle.decimal.specs.Text.{field, joined}
 use Rattle.decimal.specs.Read.{Stands}
 use Rattle.records.specs.declared.Record.{Record}
 use Rattle.records.specs.declared.Record.the-variants.{Start, Tune, Read, Write, Commit, Abort}
@@ -22,6 +22,10 @@ textOf (Read t x w) = 114 ∷ tab t (tab x (tab w newline))
 textOf (Write t x) = 119 ∷ tab t (tab x newline)
 textOf (Commit t) = 99 ∷ tab t newline
 textOf (Abort t) = 97 ∷ tab t newline
+
+-- the texts of records, one behind the other
+abbrev pub texts : List Record → List ℕ
+texts rs = joined textOf rs
 
 abbrev pub Within : ℕ → ℕ → ℕ → Type 0
 Within least most v = (least ≤ v) × (v ≤ most)

@@ -1,6 +1,6 @@
 // A line of a written history as a record: document 01, "Written histories".
 ghost use mathlib.Core.Path.{_≡_};
-ghost use Rattle.history.specs.Line.{ended, tuneAt, readAt, writeAt, behindName, lineAt};
+ghost use Rattle.history.specs.Line.{ended, tuneAt, readAt, writeAt, behindName, lineReply, lineSaid};
 use decimal::NEWLINE;
 use decimal::Natural;
 use decimal::byte_at;
@@ -27,7 +27,7 @@ pub enum Line {
 }
 
 pub fn line_at(text: &[u8], at: usize) -> Line
-    ensures { λ r. ⌜ r ≡ lineAt (now (text .entry)) at ⌝ }
+    ensures { λ r. ⌜ lineReply r ≡ lineSaid (now (text .entry)) at ⌝ }
 {
     if text.len() <= at {
         return Line::End;

@@ -3,21 +3,20 @@ use Prim.Native.Nat.{ℕ, suc, _-_, _*_, _%_, _^_, min}
 use native.Mathlib.Nat.{one-mul, mod-lt, mod-eq-of-lt}
 use native.Mathlib.Omega.{arith}
 use mathlib.Core.Path.{_≡_, refl, sym, _∙_, ap}
-use mathlib.Core.Bool.{Bool, true, false, cond}
+use mathlib.Core.Bool.{Bool, true, false, cond, _&&_}
 use mathlib.Core.List.{List, [], _∷_}
 use lib.ListN.{set}
 use lib.Pow.{pow-lt}
 use Rattle.units.specs.declared.refusal.Refusal.{Refusal}
-use Rattle.records.specs.Ledger.{nameOf, freshRow, rowOf, chain, isRecorded, resolved, changed, noted, concluded, verdictOn}
+use Rattle.records.specs.Parts.{partsOf, nameOf, starts, isReading, commits}
+use Rattle.records.specs.Ledger.{freshRow, rowOf, chain, isRecorded, resolved, changed, noted, concluded, verdictOn}
 use Rattle.records.specs.Order.{codeOf}
-use Rattle.records.specs.Tally.{starts, commits}
 use Rattle.records.specs.declared.Record.{Record}
-use Rattle.records.specs.declared.Record.the-variants.{Start, Tune, Read, Write, Commit, Abort}
 use Rattle.records.specs.declared.Row.{Row}
 use Rattle.records.specs.declared.Seen.{Seen}
 use Rattle.records.specs.declared.Judged.{Judged}
 use Rattle.records.specs.declared.Verdict.{Verdict}
-use Rattle.rows.specs.Table.{Table, placeOf, loaded, stored, rowsOf}
+use Rattle.rows.specs.Table.{Table, placeOf, loaded, rowStored, rowsOf}
 use Rattle.rows.proofs.Walk.{row-of}
 use Rattle.trial.specs.Reads.{Reads, noteAt}
 use Rattle.ledger.specs.declared.Counts.{Counts}
@@ -27,7 +26,7 @@ use Rattle.ledger.specs.declared.Check.the-variants.{Passes, Fails}
 use Rattle.ledger.specs.declared.Request.{Request}
 use Rattle.ledger.specs.declared.Request.the-variants.{Recorded, Nothing}
 use Rattle.ledger.specs.Books.{Books, Verdicts, books, verdicts, ledgerOf}
-use Rattle.ledger.specs.Take.{tidy, asked, subject, checked, place, rowsAfter, pushSeen, pushJudged, pushed, Step, step, settled, answered, takes}
+use Rattle.ledger.specs.Take.{tidy, asked, subject, checked, place, rowsAfter, pushSeen, pushJudged, pushed, Booking, booking, settled, answered, takes}
 
 never : {A : Type 0} (x w : ℕ) → Nothing ≡ Recorded x w → A
 never x w h = let z : _≡_ {A = ℕ} 0 1 = cc in absurd (omega arith)
@@ -53,30 +52,19 @@ judgedBy line rows ss e r = record { name = nameOf e; verdict = verdictOn rows (
 module _ (rows : List Row) where
   asked-nothing : (e : Record) (r : Row) → asked e r ≡ Nothing → noted rows e r [] ≡ []
   unfolding noted
-  asked-nothing (Start t) r h = refl
-  asked-nothing (Tune t b) r h = refl
-  asked-nothing (Read t x w) r h = go (isRecorded r x w) h
+  asked-nothing e r h = go (isReading e && isRecorded r (partsOf e .key) (partsOf e .source)) (partsOf e .key) (partsOf e .source) h
     where
-      go : (b : Bool) → cond b (Recorded x w) Nothing ≡ Nothing → cond b (seenOf rows r x w ∷ []) [] ≡ []
-      go true h = never x w (sym h)
-      go false h = refl
-  asked-nothing (Write t x) r h = refl
-  asked-nothing (Commit t) r h = refl
-  asked-nothing (Abort t) r h = refl
+      go : (b : Bool) (x w : ℕ) → cond b (Recorded x w) Nothing ≡ Nothing → cond b (seenOf rows r x w ∷ []) [] ≡ []
+      go true x w h = never x w (sym h)
+      go false x w h = refl
 
   asked-recorded : (e : Record) (r : Row) (x w : ℕ) → asked e r ≡ Recorded x w → noted rows e r [] ≡ seenOf rows r x w ∷ []
   unfolding noted
-  asked-recorded (Start t) r x w h = never x w h
-  asked-recorded (Tune t b) r x w h = never x w h
-  asked-recorded (Read t y v) r x w h = go (isRecorded r y v) h
+  asked-recorded e r x w h = go (isReading e && isRecorded r (partsOf e .key) (partsOf e .source)) (partsOf e .key) (partsOf e .source) h
     where
-      go : (b : Bool) → cond b (Recorded y v) Nothing ≡ Recorded x w
-          → cond b (seenOf rows r y v ∷ []) [] ≡ seenOf rows r x w ∷ []
-      go true h = let e : y ≡ x = cc in let f : v ≡ w = cc in rw (e, f)
-      go false h = never x w h
-  asked-recorded (Write t y) r x w h = never x w h
-  asked-recorded (Commit t) r x w h = never x w h
-  asked-recorded (Abort t) r x w h = never x w h
+      go : (b : Bool) (y v : ℕ) → cond b (Recorded y v) Nothing ≡ Recorded x w → cond b (seenOf rows r y v ∷ []) [] ≡ seenOf rows r x w ∷ []
+      go true y v h = let e : y ≡ x = cc in let f : v ≡ w = cc in rw (e, f)
+      go false y v h = never x w h
 
   -- a read noted, or nothing
   module _ (e : Record) (r : Row) (old new : Reads) (n q : ℕ) {a : Request} (f : a ≡ asked e r) where
@@ -93,15 +81,7 @@ module _ (rows : List Row) where
 module _ (line : ℕ) (rows : List Row) (ss : List Seen) (e : Record) (r : Row) where
   concluded-by : concluded line rows ss e r [] ≡ cond (commits e) (judgedBy line rows ss e r ∷ []) []
   unfolding concluded
-  concluded-by = go e
-    where
-      go : (e : Record) → concluded line rows ss e r [] ≡ cond (commits e) (judgedBy line rows ss e r ∷ []) []
-      go (Start t) = refl
-      go (Tune t b) = refl
-      go (Read t x w) = refl
-      go (Write t x) = refl
-      go (Commit t) = refl
-      go (Abort t) = refl
+  concluded-by = refl
 
   module _ (old new : Verdicts) (n q : ℕ) {b : Bool} (f : b ≡ commits e) where
     pub conclude-some : b ≡ true → {v : Verdict} → v ≡ verdictOn rows (chain ss (r .last)) line r → {name code : ℕ} → name ≡ nameOf e → code ≡ codeOf v
@@ -122,9 +102,9 @@ pub settles : (k : Counts) (b : Books) (line : ℕ) (e : Record) (number : ℕ) 
     × (seens ≡ pushed 4096 (min (k .seens) 4096) (noted (ledgerOf k b .rows) e r []))
     → i ≡ place e (min (k .rows) 512) number
     → q ≡ changed line (min (k .seens) 4096) (tidy e) r
-    → t ≡ stored (b .table) i q
+    → t ≡ rowStored (b .table) i q
     → n ≡ rowsAfter e (min (k .rows) 512)
-    → step (Went (record { rows = n; seens = seens; judged = judged })) (books t s v) ≡ settled k b line e number r
+    → booking (Went (record { rows = n; seens = seens; judged = judged })) (books t s v) ≡ settled k b line e number r
 unfolding settled
 settles k b line e number r t s v i n seens judged q hv hs hi hq ht hn = rw (hv .0, hv .1, hs .0, hs .1, ht, hi, hq, hn)
 
@@ -143,8 +123,8 @@ module _ (k : Counts) (b : Books) (line : ℕ) (e : Record) {name number : ℕ} 
     unfolding takes
     takes-by = rw (hc, ← number-is, ← row-is)
 
-    pub take-fails : {f : Refusal} → c ≡ Fails f → step (Refused f) b ≡ takes k b line e
+    pub take-fails : {f : Refusal} → c ≡ Fails f → booking (Refused f) b ≡ takes k b line e
     take-fails g = sym (takes-by ∙ ap (λ (x : Check). answered x b (settled k b line e number r)) g)
 
-    pub take-passes : c ≡ Passes → (s : Step) → s ≡ settled k b line e number r → s ≡ takes k b line e
+    pub take-passes : c ≡ Passes → (s : Booking) → s ≡ settled k b line e number r → s ≡ takes k b line e
     take-passes g s h = h ∙ sym (takes-by ∙ ap (λ (x : Check). answered x b (settled k b line e number r)) g)

@@ -7,16 +7,15 @@ use mathlib.Core.List.{List, [], _∷_}
 use mathlib.Core.Logic.{_⊎_, inl, inr}
 use lib.Dec.{leb, ltb}
 use borrow.Author.Tests.{leb-false}
-use Rattle.lists.specs.Lists.{any}
-use Rattle.records.specs.Ledger.{refused, went, nameOf, rowOf, become, isOpen, freshRow, isRecorded, changed, noted, concluded, begun, moved}
+use Rattle.records.specs.Parts.{nameOf, starts}
+use Rattle.records.specs.Ledger.{refused, went, rowOf, become, isOpen, freshRow, isRecorded, changed, noted, concluded, begun, moved}
 use Rattle.records.specs.Ledger as meaning
-use Rattle.records.specs.Tally.{starts}
 use Rattle.records.specs.declared.Record.{Record}
 use Rattle.records.specs.declared.Record.the-variants.{Start, Tune, Read, Write, Commit, Abort}
 use Rattle.records.specs.declared.Row.{Row}
 use Rattle.records.specs.declared.Seen.{Seen}
 use Rattle.records.specs.declared.Judged.{Judged}
-use Rattle.rows.specs.Table.{rowsOf, placeOf, loaded, stored}
+use Rattle.rows.specs.Table.{rowsOf, placeOf, loaded, rowStored}
 use Rattle.rows.specs.Table as table
 use Rattle.rows.proofs.Walk.{any-named, rows-length, row-of}
 use Rattle.rows.proofs.Stored.{stored-newest, stored-become}
@@ -27,7 +26,7 @@ use Rattle.ledger.specs.declared.Counts.{Counts}
 use Rattle.ledger.specs.declared.Taken.{Taken}
 use Rattle.ledger.specs.declared.Check.the-variants.{Passes, Fails}
 use Rattle.ledger.specs.Books.{Books, Sized, judgedOf, ledgerOf}
-use Rattle.ledger.specs.Take.{tidy, checked, pushJudged, pushed, place, rowsAfter, settled, answered, step, takes, told, outcome}
+use Rattle.ledger.specs.Take.{tidy, checked, pushJudged, pushed, place, rowsAfter, settled, answered, booking, takes, outcome}
 use Rattle.ledger.proofs.Push.{onto, seens-pushed, judged-pushed}
 
 -- a record's parts do not depend on how it is tidied, and stand before what was there
@@ -71,7 +70,7 @@ module _ (k : Counts) (b : Books) (line : ℕ) (zt : table.Sized (b .table)) (zs
 
   -- the ledger after a record that passes, given its rows
   ledger-after : (e : Record) (number : ℕ) (r : Row) (rows : List Row) → (concluded line (ledgerOf k b .rows) (ledgerOf k b .seens) e r [] ≡ []) ⊎ (k .judged < 512)
-      → rowsOf (stored (b .table) (place e (min (k .rows) 512) number) (changed line (min (k .seens) 4096) (tidy e) r)) (min (rowsAfter e (min (k .rows) 512)) 512) ≡ rows
+      → rowsOf (rowStored (b .table) (place e (min (k .rows) 512) number) (changed line (min (k .seens) 4096) (tidy e) r)) (min (rowsAfter e (min (k .rows) 512)) 512) ≡ rows
       → outcome (settled k b line e number r) ≡ went (record { rows = rows; seens = noted (ledgerOf k b .rows) (tidy e) r (ledgerOf k b .seens); judged = concluded line (ledgerOf k b .rows) (ledgerOf k b .seens) (tidy e) r (ledgerOf k b .judged) })
   unfolding settled
   ledger-after e number r rows room h =
@@ -108,7 +107,7 @@ module _ (k : Counts) (b : Books) (line : ℕ) (zt : table.Sized (b .table)) (zs
     number = placeOf (rowsOf (b .table) (min (k .rows) 512)) (nameOf e)
 
     moves-rows : isOpen row ≡ true
-        → rowsOf (stored (b .table) (place e (min (k .rows) 512) number) (changed line (min (k .seens) 4096) (tidy e) row)) (min (rowsAfter e (min (k .rows) 512)) 512)
+        → rowsOf (rowStored (b .table) (place e (min (k .rows) 512) number) (changed line (min (k .seens) 4096) (tidy e) row)) (min (rowsAfter e (min (k .rows) 512)) 512)
         ≡ become (rowsOf (b .table) (min (k .rows) 512)) (nameOf e) (changed line (min (k .seens) 4096) (tidy e) row)
     unfolding place rowsAfter
     moves-rows o =
@@ -125,8 +124,8 @@ module _ (k : Counts) (b : Books) (line : ℕ) (zt : table.Sized (b .table)) (zs
         go true o = ledger-after e number row _ (inr (hj o)) (moves-rows o)
         go false o = refl
 
-  pub meant : (e : Record) → (isOpen (rowOf (ledgerOf k b .rows) (nameOf e)) ≡ true → k .judged < 512) → outcome (takes k b line e) ≡ meaning.step line (tidy e) (ledgerOf k b)
-  unfolding meaning.step
+  pub meant : (e : Record) → (isOpen (rowOf (ledgerOf k b .rows) (nameOf e)) ≡ true → k .judged < 512) → outcome (takes k b line e) ≡ meaning.lineStep line (tidy e) (ledgerOf k b)
+  unfolding meaning.lineStep
   meant (Start t) hj = begins t
   meant (Tune t c) hj = moves (Tune t c) refl hj
   meant (Read t x w) hj = moves (Read t x w) refl hj
@@ -136,6 +135,6 @@ module _ (k : Counts) (b : Books) (line : ℕ) (zt : table.Sized (b .table)) (zs
 
 -- the two promises of a step from the first
 pub as-meant : (k : Counts) (b : Books) (line : ℕ) (e : Record) → table.Sized (b .table) → reading.Sized (b .reads) → Sized (b .verdicts) → (r : Taken) (c : Books)
-    → step r c ≡ takes k b line e
-    → (step r c ≡ takes k b line e) × (k .seens < 4096 → (isOpen (rowOf (ledgerOf k b .rows) (nameOf e)) ≡ true → k .judged < 512) → told r c ≡ meaning.step line (tidy e) (ledgerOf k b))
+    → booking r c ≡ takes k b line e
+    → (booking r c ≡ takes k b line e) × (k .seens < 4096 → (isOpen (rowOf (ledgerOf k b .rows) (nameOf e)) ≡ true → k .judged < 512) → outcome (booking r c) ≡ meaning.lineStep line (tidy e) (ledgerOf k b))
 as-meant k b line e zt zs zv r c h = (h, λ hs hj. ap outcome h ∙ meant k b line zt zs zv hs e hj)

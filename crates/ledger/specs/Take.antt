@@ -1,18 +1,18 @@
 -- What a record at a line does to the columns, exactly: the reply, and every place of every column.
 use Prim.Native.Nat.{ℕ, suc, _-_, _%_, min}
-use mathlib.Core.Bool.{cond}
+use mathlib.Core.Bool.{cond, _&&_}
 use mathlib.Core.List.{List, [], _∷_}
 use lib.Dec.{leb, ltb}
 use Rattle.units.specs.Refusal.{numberOf}
 use Rattle.units.specs.declared.refusal.Refusal.the-variants.{WrongTransaction, TooManyTransactions}
-use Rattle.records.specs.Ledger.{Outcome, refused, went, nameOf, rowOf, isOpen, freshRow, isRecorded, changed, noted, concluded}
-use Rattle.records.specs.Tally.{starts}
+use Rattle.records.specs.Parts.{partsOf, nameOf, starts, isReading, isWriting}
+use Rattle.records.specs.Ledger.{Outcome, refused, went, rowOf, isOpen, freshRow, isRecorded, changed, noted, concluded}
 use Rattle.records.specs.declared.Record.{Record}
-use Rattle.records.specs.declared.Record.the-variants.{Start, Tune, Read, Write, Commit, Abort}
+use Rattle.records.specs.declared.Record.the-variants.{Write}
 use Rattle.records.specs.declared.Row.{Row}
 use Rattle.records.specs.declared.Seen.{Seen}
 use Rattle.records.specs.declared.Judged.{Judged}
-use Rattle.rows.specs.Table.{placeOf, stored}
+use Rattle.rows.specs.Table.{placeOf, rowStored}
 use Rattle.trial.specs.Reads.{Reads, noteAt}
 use Rattle.ledger.specs.declared.Counts.{Counts}
 use Rattle.ledger.specs.declared.Taken.{Taken}
@@ -25,21 +25,11 @@ use Rattle.ledger.specs.Books.{Books, Verdicts, judgeAt, ledgerOf}
 
 -- "Keys are 0 to 63": a written key past them, which no history has, is taken by its remainder, so that it has a bit in the word
 abbrev pub tidy : Record → Record
-tidy (Start t) = Start t
-tidy (Tune t b) = Tune t b
-tidy (Read t x w) = Read t x w
-tidy (Write t x) = Write t (x % 64)
-tidy (Commit t) = Commit t
-tidy (Abort t) = Abort t
+tidy e = cond (isWriting e) (Write (nameOf e) (partsOf e .key % 64)) e
 
 -- the read that a record asks to be recorded
 abbrev pub asked : Record → Row → Request
-asked (Start t) r = Nothing
-asked (Tune t b) r = Nothing
-asked (Read t x w) r = cond (isRecorded r x w) (Recorded x w) Nothing
-asked (Write t x) r = Nothing
-asked (Commit t) r = Nothing
-asked (Abort t) r = Nothing
+asked e r = cond (isReading e && isRecorded r (partsOf e .key) (partsOf e .source)) (Recorded (partsOf e .key) (partsOf e .source)) Nothing
 
 -- the row that a record is about: a fresh one for a start, else the newest of its name
 abbrev pub subject : ℕ → Record → Row → Row
@@ -72,20 +62,29 @@ unfoldable pub pushed : {A : Type 0} → ℕ → ℕ → List A → ℕ
 pushed most n [] = n
 pushed most n (x ∷ xs) = min (suc n) most
 
--- a step: the reply, and the columns after it
-pub record Step : Type 0 where
-  pub reply : Taken
+-- the reply in document 01's numbers: a refusal, or how much stands in the columns
+pub data TakeReply : Type 0 where
+  refusedWith : (number : ℕ) → TakeReply
+  counted : Counts → TakeReply
+
+abbrev pub takenReply : Taken → TakeReply
+takenReply (Refused f) = refusedWith (numberOf f)
+takenReply (Went k) = counted k
+
+-- the reply, and the columns after it
+pub record Booking : Type 0 where
+  pub reply : TakeReply
   pub books : Books
 
-abbrev pub step : Taken → Books → Step
-step r b = record { reply = r; books = b }
+abbrev pub booking : Taken → Books → Booking
+booking r b = record { reply = takenReply r; books = b }
 
 -- a record that passes: its row changed, its read noted, its commit concluded
-unfoldable pub settled : Counts → Books → ℕ → Record → ℕ → Row → Step
+unfoldable pub settled : Counts → Books → ℕ → Record → ℕ → Row → Booking
 settled k b line e number r =
     record {
       reply =
-          Went
+          counted
           (record {
             rows = rowsAfter e (min (k .rows) 512);
             seens = pushed 4096 (min (k .seens) 4096) (noted (ledgerOf k b .rows) e r []);
@@ -93,26 +92,26 @@ settled k b line e number r =
           });
       books =
           record {
-            table = stored (b .table) (place e (min (k .rows) 512) number) (changed line (min (k .seens) 4096) (tidy e) r);
+            table = rowStored (b .table) (place e (min (k .rows) 512) number) (changed line (min (k .seens) 4096) (tidy e) r);
             reads = pushSeen (b .reads) (min (k .seens) 4096) (noted (ledgerOf k b .rows) e r []);
             verdicts = pushJudged (b .verdicts) (min (k .judged) 512) (concluded line (ledgerOf k b .rows) (ledgerOf k b .seens) e r []);
           };
     }
 
-abbrev pub answered : Check → Books → Step → Step
+abbrev pub answered : Check → Books → Booking → Booking
 answered Passes b s = s
-answered (Fails f) b s = record { reply = Refused f; books = b }
+answered (Fails f) b s = record { reply = refusedWith (numberOf f); books = b }
 
-unfoldable pub takes : Counts → Books → ℕ → Record → Step
+unfoldable pub takes : Counts → Books → ℕ → Record → Booking
 takes k b line e =
     let number : ℕ = placeOf (ledgerOf k b .rows) (nameOf e) in
     let r : Row = subject line e (rowOf (ledgerOf k b .rows) (nameOf e)) in
     answered (checked e (min (k .rows) 512) number r) b (settled k b line e number r)
 
--- what a step comes to in the judge's own terms
-abbrev pub told : Taken → Books → Outcome
-told (Refused f) b = refused (numberOf f)
-told (Went k) b = went (ledgerOf k b)
+-- what it comes to in the judge's own terms
+abbrev pub cameTo : TakeReply → Books → Outcome
+cameTo (refusedWith n) b = refused n
+cameTo (counted k) b = went (ledgerOf k b)
 
-abbrev pub outcome : Step → Outcome
-outcome s = told (s .reply) (s .books)
+abbrev pub outcome : Booking → Outcome
+outcome s = cameTo (s .reply) (s .books)

@@ -5,15 +5,15 @@ ghost use mathlib.Core.List.{[]};
 ghost use mathlib.Core.Path.{_≡_};
 ghost use lib.ListN.{set};
 ghost use mathlib.Core.Bool.{true};
-ghost use Rattle.records.specs.Ledger.{nameOf, rowOf, isOpen, freshRow, isRecorded, withEnd, changed, noted, concluded};
+ghost use Rattle.records.specs.Parts.{nameOf, starts, commits};
+ghost use Rattle.records.specs.Ledger.{rowOf, isOpen, freshRow, isRecorded, withEnd, changed, noted, concluded};
 ghost use Rattle.records.specs.Ledger as meaning;
-ghost use Rattle.records.specs.Order.{codeOf, verdictFrom};
-ghost use Rattle.records.specs.Tally.{starts, commits};
+ghost use Rattle.records.specs.Order.{codeOf};
 ghost use Rattle.rows.specs.Table.{Table, table, withNames, withVersions, rowsOf};
 ghost use Rattle.trial.specs.Reads.{reads, seensOf, noteAt};
 ghost use Rattle.trial.specs.Reads as reading;
 ghost use Rattle.ledger.specs.Books.{Sized, books, verdicts, ledgerOf};
-ghost use Rattle.ledger.specs.Take.{tidy, subject, asked, checked, place, rowsAfter, pushSeen, pushJudged, pushed, step, settled, takes, told};
+ghost use Rattle.ledger.specs.Take.{tidy, subject, asked, checked, place, rowsAfter, pushSeen, pushJudged, pushed, booking, settled, takes, outcome};
 use records::ABORTED;
 use records::Record;
 use records::Row;
@@ -67,8 +67,8 @@ pub fn take(
     line: u32,
     e: Record,
 ) -> Taken
-    ensures exact { λ r. ⌜ step r (books (table (now (names .exit)) (now (starts .exit)) (now (ends .exit)) (now (words .exit)) (now (k1s .exit)) (now (k2s .exit)) (now (k3s .exit)) (now (lasts .exit))) (reads (now («seen_keys» .exit)) (now («seen_lines» .exit)) (now («seen_befores» .exit))) (verdicts (now («judged_names» .exit)) (now («judged_verdicts» .exit)))) ≡ takes counts (books (table (now (names .entry)) (now (starts .entry)) (now (ends .entry)) (now (words .entry)) (now (k1s .entry)) (now (k2s .entry)) (now (k3s .entry)) (now (lasts .entry))) (reads (now («seen_keys» .entry)) (now («seen_lines» .entry)) (now («seen_befores» .entry))) (verdicts (now («judged_names» .entry)) (now («judged_verdicts» .entry)))) line e ⌝ }
-    ensures meant { λ r. ⌜ (counts .seens < 4096 → (isOpen (rowOf (ledgerOf counts (books (table (now (names .entry)) (now (starts .entry)) (now (ends .entry)) (now (words .entry)) (now (k1s .entry)) (now (k2s .entry)) (now (k3s .entry)) (now (lasts .entry))) (reads (now («seen_keys» .entry)) (now («seen_lines» .entry)) (now («seen_befores» .entry))) (verdicts (now («judged_names» .entry)) (now («judged_verdicts» .entry)))) .rows) (nameOf e)) ≡ true → counts .judged < 512) → told r (books (table (now (names .exit)) (now (starts .exit)) (now (ends .exit)) (now (words .exit)) (now (k1s .exit)) (now (k2s .exit)) (now (k3s .exit)) (now (lasts .exit))) (reads (now («seen_keys» .exit)) (now («seen_lines» .exit)) (now («seen_befores» .exit))) (verdicts (now («judged_names» .exit)) (now («judged_verdicts» .exit)))) ≡ meaning.step line (tidy e) (ledgerOf counts (books (table (now (names .entry)) (now (starts .entry)) (now (ends .entry)) (now (words .entry)) (now (k1s .entry)) (now (k2s .entry)) (now (k3s .entry)) (now (lasts .entry))) (reads (now («seen_keys» .entry)) (now («seen_lines» .entry)) (now («seen_befores» .entry))) (verdicts (now («judged_names» .entry)) (now («judged_verdicts» .entry)))))) ⌝ }
+    ensures exact { λ r. ⌜ booking r (books (table (now (names .exit)) (now (starts .exit)) (now (ends .exit)) (now (words .exit)) (now (k1s .exit)) (now (k2s .exit)) (now (k3s .exit)) (now (lasts .exit))) (reads (now («seen_keys» .exit)) (now («seen_lines» .exit)) (now («seen_befores» .exit))) (verdicts (now («judged_names» .exit)) (now («judged_verdicts» .exit)))) ≡ takes counts (books (table (now (names .entry)) (now (starts .entry)) (now (ends .entry)) (now (words .entry)) (now (k1s .entry)) (now (k2s .entry)) (now (k3s .entry)) (now (lasts .entry))) (reads (now («seen_keys» .entry)) (now («seen_lines» .entry)) (now («seen_befores» .entry))) (verdicts (now («judged_names» .entry)) (now («judged_verdicts» .entry)))) line e ⌝ }
+    ensures meant { λ r. ⌜ (counts .seens < 4096 → (isOpen (rowOf (ledgerOf counts (books (table (now (names .entry)) (now (starts .entry)) (now (ends .entry)) (now (words .entry)) (now (k1s .entry)) (now (k2s .entry)) (now (k3s .entry)) (now (lasts .entry))) (reads (now («seen_keys» .entry)) (now («seen_lines» .entry)) (now («seen_befores» .entry))) (verdicts (now («judged_names» .entry)) (now («judged_verdicts» .entry)))) .rows) (nameOf e)) ≡ true → counts .judged < 512) → outcome (booking r (books (table (now (names .exit)) (now (starts .exit)) (now (ends .exit)) (now (words .exit)) (now (k1s .exit)) (now (k2s .exit)) (now (k3s .exit)) (now (lasts .exit))) (reads (now («seen_keys» .exit)) (now («seen_lines» .exit)) (now («seen_befores» .exit))) (verdicts (now («judged_names» .exit)) (now («judged_verdicts» .exit))))) ≡ meaning.lineStep line (tidy e) (ledgerOf counts (books (table (now (names .entry)) (now (starts .entry)) (now (ends .entry)) (now (words .entry)) (now (k1s .entry)) (now (k2s .entry)) (now (k3s .entry)) (now (lasts .entry))) (reads (now («seen_keys» .entry)) (now («seen_lines» .entry)) (now («seen_befores» .entry))) (verdicts (now («judged_names» .entry)) (now («judged_verdicts» .entry)))))) ⌝ }
 {
     sized(names, starts, ends, words, k1s, k2s, k3s, lasts);
     sized_reads(seen_keys, seen_lines, seen_befores);
@@ -125,7 +125,7 @@ fn settle(
     number: usize,
     row: Row,
 ) -> Taken
-    ensures { λ r. ⌜ step r (books (table (now (names .exit)) (now (starts .exit)) (now (ends .exit)) (now (words .exit)) (now (k1s .exit)) (now (k2s .exit)) (now (k3s .exit)) (now (lasts .exit))) (reads (now («seen_keys» .exit)) (now («seen_lines» .exit)) (now («seen_befores» .exit))) (verdicts (now («judged_names» .exit)) (now («judged_verdicts» .exit)))) ≡ settled counts (books (table (now (names .entry)) (now (starts .entry)) (now (ends .entry)) (now (words .entry)) (now (k1s .entry)) (now (k2s .entry)) (now (k3s .entry)) (now (lasts .entry))) (reads (now («seen_keys» .entry)) (now («seen_lines» .entry)) (now («seen_befores» .entry))) (verdicts (now («judged_names» .entry)) (now («judged_verdicts» .entry)))) line e number row ⌝ }
+    ensures { λ r. ⌜ booking r (books (table (now (names .exit)) (now (starts .exit)) (now (ends .exit)) (now (words .exit)) (now (k1s .exit)) (now (k2s .exit)) (now (k3s .exit)) (now (lasts .exit))) (reads (now («seen_keys» .exit)) (now («seen_lines» .exit)) (now («seen_befores» .exit))) (verdicts (now («judged_names» .exit)) (now («judged_verdicts» .exit)))) ≡ settled counts (books (table (now (names .entry)) (now (starts .entry)) (now (ends .entry)) (now (words .entry)) (now (k1s .entry)) (now (k2s .entry)) (now (k3s .entry)) (now (lasts .entry))) (reads (now («seen_keys» .entry)) (now («seen_lines» .entry)) (now («seen_befores» .entry))) (verdicts (now («judged_names» .entry)) (now («judged_verdicts» .entry)))) line e number row ⌝ }
 {
     let judged = conclude(
         ends,
@@ -454,8 +454,8 @@ fn add_verdict(
     limits::TRANSACTIONS
 }
 
-// A verdict by its place in the order ok, RC, BV, FV, SV, WC, as the column holds it, and back.
-pub fn code_of(v: Verdict) -> u8
+// A verdict by its place in the order ok, RC, BV, FV, SV, WC, as the column holds it.
+fn code_of(v: Verdict) -> u8
     ensures { λ r. ⌜ r ≡ codeOf v ⌝ }
 {
     match v {
@@ -465,19 +465,6 @@ pub fn code_of(v: Verdict) -> u8
         Verdict::FV => 3,
         Verdict::SV => 4,
         Verdict::WC => 5,
-    }
-}
-
-pub fn verdict_from(code: u8) -> Verdict
-    ensures { λ r. ⌜ r ≡ verdictFrom code ⌝ }
-{
-    match code {
-        0 => Verdict::Ok,
-        1 => Verdict::RC,
-        2 => Verdict::BV,
-        3 => Verdict::FV,
-        4 => Verdict::SV,
-        _ => Verdict::WC,
     }
 }
 

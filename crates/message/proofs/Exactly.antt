@@ -23,7 +23,7 @@ use Rattle.decimal.proofs.Reading.{after, head-of}
 use Rattle.decimal.proofs.Tabs.{byte-stands, natural-tabbed, tabbed-stands, tabbed-at, Took, number-took}
 use Rattle.decimal.proofs.Putting.{puts-front}
 use Rattle.message.specs.Line.{itemText, itemsText, messageText, InRanges, IsMessage}
-use Rattle.message.specs.Read.{Reading, whole, bad, isOfKey, distinct, onPiece, itemAt, endsAt, ifDistinct, itemsAt, readLine, messageOf, says, lineReply, readingReply}
+use Rattle.message.specs.Read.{Reading, whole, bad, isOfKey, distinct, onPiece, itemAt, endsAt, ifDistinct, itemsAt, readLine, messageOf, says, readMessageReply, readingReply}
 use Rattle.message.specs.declared.read.Message.{Message}
 use Rattle.message.specs.declared.read.Piece.{Piece}
 use Rattle.message.proofs.Items.{ItemAt, item-reads, item-back, piece-took, stops-items}
@@ -236,16 +236,16 @@ bad-exactly s =
 -- ---- as the code hands it over
 
 -- the reply in document 01's numbers
-message-reply : (s : List ℕ) → lineReply (messageOf (readLine s)) ≡ readingReply (readLine s)
+message-reply : (s : List ℕ) → readMessageReply (messageOf (readLine s)) ≡ readingReply (readLine s)
 unfolding messageOf
 message-reply s = go (readLine s) refl
   where
-    go : (r : Reading) → readLine s ≡ r → lineReply (messageOf r) ≡ readingReply r
+    go : (r : Reading) → readLine s ≡ r → readMessageReply (messageOf r) ≡ readingReply r
     go (whole stamp items) q = ap (says stamp) (batch-items items (line-reads s stamp items q .1 .few))
     go bad q = refl
 
-pub message-answered : (s : List ℕ) {m : Message} → m ≡ messageOf (readLine s) → (lineReply m ≡ readingReply (readLine s)) × (m ≡ messageOf (readLine s))
-message-answered s e = (ap lineReply e ∙ message-reply s, e)
+pub message-answered : (s : List ℕ) {m : Message} → m ≡ messageOf (readLine s) → (readMessageReply m ≡ readingReply (readLine s)) × (m ≡ messageOf (readLine s))
+message-answered s e = (ap readMessageReply e ∙ message-reply s, e)
 
 -- a message of the form that was put at the front of a room is read back from there
 pub written-back : {b c : List ℕ} {r : ℕ} (stamp : ℕ) (items : List Item) → IsMessage stamp items → Puts b c 0 (messageText stamp items) r → readLine (take r c) ≡ whole stamp items

@@ -84,17 +84,17 @@ messageIfDistinct stamp b = cond (distinct (itemsOf b)) (message stamp b) noMess
 
 -- ---- the same in document 01's numbers: the stamp and the versions that the line says, or 10, "message line not of the form above"
 
-pub data LineReply : Type 0 where
-  says : (stamp : ℕ) → List Item → LineReply
-  refused : (number : ℕ) → LineReply
+pub data ReadMessageReply : Type 0 where
+  says : (stamp : ℕ) → List Item → ReadMessageReply
+  refused : (number : ℕ) → ReadMessageReply
 
-abbrev pub formReply : Form → ℕ → List Item → LineReply
+abbrev pub formReply : Form → ℕ → List Item → ReadMessageReply
 formReply Form.Whole stamp items = says stamp items
 formReply Form.Bad stamp items = refused 10
 
-abbrev pub lineReply : Message → LineReply
-lineReply m = formReply (m .form) (m .stamp .0) (itemsOf (m .batch))
+abbrev pub readMessageReply : Message → ReadMessageReply
+readMessageReply m = formReply (m .form) (m .stamp .0) (itemsOf (m .batch))
 
-abbrev pub readingReply : Reading → LineReply
+abbrev pub readingReply : Reading → ReadMessageReply
 readingReply (whole stamp items) = says stamp items
 readingReply bad = refused 10

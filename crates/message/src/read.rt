@@ -5,7 +5,7 @@ ghost use mathlib.Core.List.{[]};
 ghost use lib.ListN.{drop};
 ghost use Rattle.lists.specs.Lists.{any};
 ghost use Rattle.message.specs.Line.{itemsOf};
-ghost use Rattle.message.specs.Read.{isOfKey, distinct, itemAt, endsAt, itemsAt, readLine, messageOf, noMessage, messageIfDistinct, lineReply, readingReply};
+ghost use Rattle.message.specs.Read.{isOfKey, distinct, itemAt, endsAt, itemsAt, readLine, messageOf, noMessage, messageIfDistinct, readMessageReply, readingReply};
 use crate::LETTER;
 use crate::size;
 use decimal::NEWLINE;
@@ -39,7 +39,7 @@ enum Piece {
 }
 
 pub fn read_message(line: &[u8]) -> Message
-    ensures reply { λ r. ⌜ lineReply r ≡ readingReply (readLine (now (line .entry))) ⌝ }
+    ensures reply { λ r. ⌜ readMessageReply r ≡ readingReply (readLine (now (line .entry))) ⌝ }
     ensures places { λ r. ⌜ r ≡ messageOf (readLine (now (line .entry))) ⌝ }
 {
     if byte_at(line, 0) != LETTER {

@@ -14,44 +14,34 @@ use Rattle.lists.specs.Lists.{filter, Every, none, also}
 use Rattle.lists.specs.Along.{Along, bare as no-more, beside}
 use Rattle.lists.proofs.Every.{every-map}
 use Rattle.lists.proofs.Filter.{every-filter}
+use Rattle.records.specs.Parts.{nameOf, starts, isReading, isRead, isCommit}
 use Rattle.records.specs.declared.Record.{Record}
 use Rattle.records.specs.declared.Record.the-variants.{Start, Tune, Read, Write, Commit, Abort}
 use Rattle.records.specs.declared.Row.{Row}
 use Rattle.records.specs.declared.Seen.{Seen}
-use Rattle.records.specs.Written.{History, ReadLine, readLines, recordedReads, isOwn, stampOf, isCommit, commitLine, wrote}
-use Rattle.records.specs.Ledger.{Ledger, rowOf, become, nameOf, isOpen, nowhere, freshRow, changed, noted, isRecorded, resolved, chain}
-use Rattle.records.specs.Tally.{starts}
+use Rattle.records.specs.Written.{History, ReadLine, readOf, readLines, recordedReads, isOwn, stampOf, commitLine, wrote}
+use Rattle.records.specs.Ledger.{Ledger, rowOf, become, isOpen, nowhere, freshRow, changed, noted, isRecorded, resolved, chain}
 use Rattle.records.specs.Mirror.{keeps, Resolves}
 use Rattle.records.proofs.Lines.{line-le}
 use Rattle.records.proofs.Rows.{unnamed, open-named}
 use Rattle.records.proofs.Runs.{Ran, bare, began, moved}
-use Rattle.records.proofs.Fields.{rowAfter, after-same, after-other, landed, keys-tied, commit-tied}
+use Rattle.records.proofs.Fields.{rowAfter, after-same, after-other, landed, keys-tied, commit-tied, other-line}
 
 -- a line of another transaction, and one that is no read, adds none
 pub other-reads : (t : ℕ) (e : Record) (h : History) → nameOf e ≢ t → recordedReads (e ∷ h) t ≡ recordedReads h t
 unfolding recordedReads readLines
-other-reads t (Start u) h n = refl
-other-reads t (Tune u b) h n = refl
-other-reads t (Read u x w) h n = rw (ne-eqb u t n)
-other-reads t (Write u x) h n = refl
-other-reads t (Commit u) h n = refl
-other-reads t (Abort u) h n = refl
+other-reads t e h n = rw (other-line t (isReading e) e n)
 
 -- a read stands on a line of the history
 lines-below : (h : History) (t : ℕ) → Every (λ (x : ReadLine). length (x .before) < length h) (readLines h t)
 unfolding readLines
 lines-below [] t = none
-lines-below (Start u ∷ h) t = every-map (λ x k. omega arith) (lines-below h t)
-lines-below (Tune u b ∷ h) t = every-map (λ x k. omega arith) (lines-below h t)
-lines-below (Read u y w ∷ h) t = go (eqb u t) (every-map (λ x k. omega arith) (lines-below h t))
+lines-below (e ∷ h) t = go (isRead t e) (every-map (λ x k. omega arith) (lines-below h t))
   where
     go : (b : Bool) → Every (λ (x : ReadLine). length (x .before) < suc (length h)) (readLines h t)
-        → Every (λ (x : ReadLine). length (x .before) < suc (length h)) (cond b (record { key = y; source = w; before = h } ∷ readLines h t) (readLines h t))
-    go true k = also {x = record { key = y; source = w; before = h }} (omega arith) k
+        → Every (λ (x : ReadLine). length (x .before) < suc (length h)) (cond b (readOf e h ∷ readLines h t) (readLines h t))
+    go true k = also {x = readOf e h} (omega arith) k
     go false k = k
-lines-below (Write u x ∷ h) t = every-map (λ x k. omega arith) (lines-below h t)
-lines-below (Commit u ∷ h) t = every-map (λ x k. omega arith) (lines-below h t)
-lines-below (Abort u ∷ h) t = every-map (λ x k. omega arith) (lines-below h t)
 
 pub reads-below : (h : History) (t : ℕ) → Every (λ (x : ReadLine). length (x .before) < length h) (recordedReads h t)
 unfolding recordedReads

@@ -10,12 +10,12 @@ use borrow.Author.Tests.{eqb-true, lt-ltb, le-ltb, lt-leb}
 use Rattle.lists.specs.Lists.{count, bit, Every, none, also}
 use Rattle.lists.proofs.Every.{every-map}
 use Rattle.lists.proofs.Count.{count-same}
+use Rattle.records.specs.Parts.{nameOf, starts}
 use Rattle.records.specs.declared.Record.{Record}
 use Rattle.records.specs.declared.Record.the-variants.{Start, Tune, Read, Write, Commit, Abort}
 use Rattle.records.specs.declared.Row.{Row}
 use Rattle.records.specs.Written.{History, versionLines, wrote, makes, upTo, between}
-use Rattle.records.specs.Ledger.{Ledger, rowOf, nameOf, nowhere, freshRow, changed, isRecorded, has, rowsUpTo, rowsBetween}
-use Rattle.records.specs.Tally.{starts}
+use Rattle.records.specs.Ledger.{Ledger, rowOf, nowhere, freshRow, changed, isRecorded, has, rowsUpTo, rowsBetween}
 use Rattle.records.proofs.Rows.{open-there, become-count}
 use Rattle.records.proofs.Runs.{Ran, bare, began, moved}
 use Rattle.records.proofs.Fields.{rowAfter, read-keeps, keys-tied}

@@ -4,7 +4,7 @@ use mathlib.Core.List.{[], _∷_}
 use Rattle.lists.specs.Lists.{any, count}
 use Rattle.units.specs.Bounds.{default}
 use Rattle.records.specs.declared.Verdict.the-variants.{Ok, FV}
-use Rattle.records.specs.Ledger.{Ledger, blank, rowOf, become, rowsUpTo, rowsBetween, resolved, chain, verdictOn, changed, noted, concluded, step}
+use Rattle.records.specs.Ledger.{Ledger, blank, rowOf, become, rowsUpTo, rowsBetween, resolved, chain, verdictOn, changed, noted, concluded, lineStep}
 use Rattle.records.specs.Tally.{totalsOf}
 use Rattle.records.specs.Judge.{nothing, line}
 use Rattle.records.specs.Example.{P10, Empty}
@@ -21,7 +21,7 @@ after-c2 =
     }
 
 pub p10 : P10
-unfolding any count rowOf become rowsUpTo rowsBetween resolved chain verdictOn changed noted concluded step totalsOf
+unfolding any count rowOf become rowsUpTo rowsBetween resolved chain verdictOn changed noted concluded lineStep totalsOf
 p10 = record { ledger = after-c2; taken = line (line (line (line (line (line nothing refl) refl) refl) refl) refl) refl; verdicts = refl; totals = refl }
 
 pub empty : Empty

@@ -5,7 +5,7 @@ use native.Mathlib.Nat.{zero-div}
 use native.Mathlib.Decide.{ℕ-discrete}
 use mathlib.Core.Path.{_≡_, refl, sym, _∙_, ap}
 use mathlib.Core.Logic.{_≢_}
-use mathlib.Core.Bool.{Bool, true, false, cond, _||_, or-comm, true≢false}
+use mathlib.Core.Bool.{Bool, true, false, cond, _&&_, _||_, or-comm, and-false, true≢false}
 use mathlib.Core.List.{[], _∷_, map}
 use lib.Dec.{eqb, ltb}
 use lib.ListN.{length}
@@ -15,13 +15,14 @@ use Rattle.lists.specs.Members.{Distinct, empty, apart}
 use Rattle.lists.proofs.Every.{every-map, any-none, none-any}
 use Rattle.units.specs.Bounds.{default}
 use Rattle.units.specs.declared.Bounds.{Bounds}
+use Rattle.records.specs.Parts.{nameOf, starts, tunes, isWriting, commits, aborts, isStart, isCommit, isWrite, isAbort}
 use Rattle.records.specs.declared.Record.{Record}
 use Rattle.records.specs.declared.Record.the-variants.{Start, Tune, Read, Write, Commit, Abort}
 use Rattle.records.specs.declared.Row.{Row}
-use Rattle.records.specs.Written.{History, isStart, isCommit, isWrite, lineOf, startLine, commitLine, wrote, boundsIn}
-use Rattle.records.specs.Ledger.{Ledger, rowOf, become, named, nameOf, isOpen, noRow, nowhere, freshRow, changed, isRecorded, withLast, has}
-use Rattle.records.specs.Tally.{starts}
-use Rattle.records.specs.Mirror.{isAbort, endIn}
+use Rattle.records.specs.Written.{History, lineWhere, startLine, commitLine, wrote, boundsIn}
+use Rattle.records.specs.Ledger.{Ledger, rowOf, become, named, isOpen, noRow, nowhere, freshRow, changed, isRecorded, withLast, has}
+use Rattle.records.specs.Mirror.{endIn}
+use Rattle.records.proofs.Tuned.{last-counts}
 use Rattle.records.proofs.Word.{has-plus}
 use Rattle.records.proofs.Rows.{unnamed, open-named, open-there, become-same, become-other, become-names, become-named, named-names, changed-name}
 use Rattle.records.proofs.Runs.{Ran, bare, began, moved}
@@ -29,46 +30,24 @@ use Rattle.records.proofs.Lines.{line-past, any-past, line-le, line-non
 
 -- a record that does not name t is none of its starts, commits, aborts, writes
 module _ (t : ℕ) where
+  pub other-line : (kind : Bool) (e : Record) → nameOf e ≢ t → (kind && eqb (nameOf e) t) ≡ false
+  other-line kind e n = rw (ne-eqb (nameOf e) t n) (and-false kind)
+
   pub other-start : (e : Record) → nameOf e ≢ t → isStart t e ≡ false
-  other-start (Start u) n = ne-eqb u t n
-  other-start (Tune u b) n = refl
-  other-start (Read u x w) n = refl
-  other-start (Write u x) n = refl
-  other-start (Commit u) n = refl
-  other-start (Abort u) n = refl
+  other-start e n = other-line (starts e) e n
 
   pub other-commit : (e : Record) → nameOf e ≢ t → isCommit t e ≡ false
-  other-commit (Start u) n = refl
-  other-commit (Tune u b) n = refl
-  other-commit (Read u x w) n = refl
-  other-commit (Write u x) n = refl
-  other-commit (Commit u) n = ne-eqb u t n
-  other-commit (Abort u) n = refl
+  other-commit e n = other-line (commits e) e n
 
   pub other-abort : (e : Record) → nameOf e ≢ t → isAbort t e ≡ false
-  other-abort (Start u) n = refl
-  other-abort (Tune u b) n = refl
-  other-abort (Read u x w) n = refl
-  other-abort (Write u x) n = refl
-  other-abort (Commit u) n = refl
-  other-abort (Abort u) n = ne-eqb u t n
+  other-abort e n = other-line (aborts e) e n
 
   pub other-write : (x : ℕ) (e : Record) → nameOf e ≢ t → isWrite t x e ≡ false
-  other-write x (Start u) n = refl
-  other-write x (Tune u b) n = refl
-  other-write x (Read u y w) n = refl
-  other-write x (Write u y) n = rw (ne-eqb u t n)
-  other-write x (Commit u) n = refl
-  other-write x (Abort u) n = refl
+  other-write x e n = rw (ne-eqb (nameOf e) t n) (and-false (isWriting e))
 
   pub other-bounds : (e : Record) (h : History) → nameOf e ≢ t → boundsIn (e ∷ h) t ≡ boundsIn h t
   unfolding boundsIn
-  other-bounds (Start u) h n = refl
-  other-bounds (Tune u b) h n = rw (ne-eqb u t n)
-  other-bounds (Read u y w) h n = refl
-  other-bounds (Write u y) h n = refl
-  other-bounds (Commit u) h n = refl
-  other-bounds (Abort u) h n = refl
+  other-bounds e h n = rw (other-line (tunes e) e n)
 
 -- what a line makes of its transaction's row, under the same name
 module _ (n : ℕ) (e : Record) (l : Ledger) (o : isOpen (rowOf (l .rows) (nameOf e)) ≡ true) where
@@ -90,15 +69,7 @@ unfolding any
 named-started bare t = refl
 named-started (began {t = u} r f) t = rw (named-started r t)
 named-started (moved {h} {e} {l} r s o) t =
-    become-named (nameOf e) (rowAfter (suc (length h)) e l o) (after-name (suc (length h)) e l o) (l .rows) t ∙ named-started r t ∙ ap (λ (b : Bool). b || any (isStart t) h) (no e s)
-  where
-    no : (e : Record) → starts e ≡ false → false ≡ isStart t e
-    no (Start u) s = absurd (true≢false s)
-    no (Tune u b) s = refl
-    no (Read u x w) s = refl
-    no (Write u x) s = refl
-    no (Commit u) s = refl
-    no (Abort u) s = refl
+    become-named (nameOf e) (rowAfter (suc (length h)) e l o) (after-name (suc (length h)) e l o) (l .rows) t ∙ named-started r t ∙ sym (any-past (isStart t) e h (rw s))
 
 -- before its start no line names a transaction
 pub silent : {h : History} {l : Ledger} → Ran h l → (t : ℕ) → any (named t) (l .rows) ≡ false → Every (λ (e : Record). nameOf e ≢ t) h
@@ -173,7 +144,7 @@ read-keeps f r m false e = refl
 
 -- the line of its start
 pub start-tied : {h : History} {l : Ledger} → Ran h l → length h ≤ nowhere → (t : ℕ) → rowOf (l .rows) t .start ≡ startLine h t
-unfolding lineOf changed
+unfolding lineWhere changed
 start-tied = tied (λ (q : Row). q .start) startLine (λ u. refl) (λ e g u n. line-past (isStart u) e g (other-start u e n)) (λ g u e s. rw (eq-eqb u u refl)) moves
   where
     moves : (g : History) (e : Record) (n : ℕ) (q : Row) → Moves g e q
@@ -220,7 +191,7 @@ bounds-tied r small t started = tied (λ (q : Row). q .bounds) boundsOrNone (λ 
     moves : (g : History) (e : Record) (n : ℕ) (q : Row) → Moves g e q
         → q .bounds ≡ boundsOrNone g (nameOf e) → changed (suc (length g)) n e q .bounds ≡ boundsOrNone (e ∷ g) (nameOf e)
     moves g (Start u) n q m ih = absurd (true≢false (m .moving))
-    moves g (Tune u b) n q m ih = rw (m .started, eq-eqb u u refl)
+    moves g (Tune u b) n q m ih = rw (m .started) (sym (last-counts u g b none))
     moves g (Read u x w) n q m ih = read-keeps (λ (a : Row). a .bounds) q (suc n) (isRecorded q x w) refl ∙ ih
     moves g (Write u x) n q m ih = ih
     moves g (Commit u) n q m ih = ih
@@ -244,7 +215,7 @@ open-aborts h t e = go (any (isAbort t) h) (rw (open-commits h t e) at e)
     go false e = refl
 
 pub end-tied : {h : History} {l : Ledger} → Ran h l → length h ≤ nowhere → (t : ℕ) → rowOf (l .rows) t .end ≡ endIn h t
-unfolding any changed endIn lineOf
+unfolding any changed endIn lineWhere
 end-tied = tied (λ (q : Row). q .end) endIn (λ u. refl) others begins moves
   where
     others : (e : Record) (g : History) (u : ℕ) → nameOf e ≢ u → endIn (e ∷ g) u ≡ endIn g u

@@ -11,10 +11,11 @@ use lib.Signed.{_<ℤ_, _≤ℤ_}
 use Rattle.lists.specs.Lists.{any, Every}
 use Rattle.lists.proofs.Every.{every-map}
 use Rattle.lists.proofs.Along.{every-iff}
+use Rattle.records.specs.Parts.{isStart, isCommit, isWrite, nameOf}
 use Rattle.records.specs.declared.Record.{Record}
 use Rattle.records.specs.declared.Record.the-variants.{Commit}
-use Rattle.records.specs.Written.{History, ReadLine, readLines, recordedReads, isStart, isCommit, isWrite, lineOf, startLine, commitLine, boundsIn, wrote, stampOf, distanceIn, KeepsRC, KeepsBV, KeepsFV, KeepsSV, KeepsWC}
-use Rattle.records.specs.Ledger.{Ledger, nameOf, nowhere}
+use Rattle.records.specs.Written.{History, ReadLine, readLines, recordedReads, lineWhere, startLine, commitLine, boundsIn, wrote, stampOf, distanceIn, WithinBV, WithinFV, WithinSV, KeepsRC, KeepsBV, KeepsFV, KeepsSV, KeepsWC}
+use Rattle.records.specs.Ledger.{Ledger, nowhere}
 use Rattle.records.proofs.Lines.{line-past, line-here, line-le, some-line, any-past}
 use Rattle.records.proofs.Runs.{Ran}
 use Rattle.records.proofs.Fields.{other-start, other-commit, other-write, other-bounds, not-ended}
@@ -31,7 +32,7 @@ pub steady-other : (e : Record) (h : History) (t : ℕ) → nameOf e ≢ t → S
 steady-other e h t n = record { start = line-past (isStart t) e h (other-start t e n); bounds = other-bounds t e h n; reads = other-reads t e h n }
 
 pub steady-commit : (h : History) (t : ℕ) → Steady (Commit t) h t
-unfolding lineOf boundsIn recordedReads readLines
+unfolding lineWhere boundsIn recordedReads readLines
 steady-commit h t = record { start = refl; bounds = refl; reads = refl }
 
 same-less : {d e : ℤ} (k : ℤ) → d ≡ e → (d <ℤ k) ↔ (e <ℤ k)
@@ -53,16 +54,23 @@ module _ (e : Record) (h : History) (t : ℕ) (k : Steady e h t) where
   pub rc-stays : KeepsRC (e ∷ h) t ↔ KeepsRC h t
   rc-stays = rw (k .reads) Iff·rfl
 
+  bv-one : (x : ReadLine) → stampOf x ≤ length h → WithinBV (e ∷ h) t x ↔ WithinBV h t x
+  bv-one x b = rw (k .start, k .bounds) (same-less _ (distance-stays x b))
+
+  fv-one : (x : ReadLine) → stampOf x ≤ length h → WithinFV (e ∷ h) t x ↔ WithinFV h t x
+  fv-one x b = rw (k .start, k .bounds) (same-most _ (distance-stays x b))
+
+  sv-one : (x y : ReadLine) → stampOf y ≤ length h → WithinSV (e ∷ h) t x y ↔ WithinSV h t x y
+  sv-one x y c = rw (k .bounds) (same-count _ (between-stays e h (x .key) (stampOf x) (stampOf y) (omega arith)))
+
   pub bv-stays : KeepsBV (e ∷ h) t ↔ KeepsBV h t
-  bv-stays = rw (k .reads, k .start, k .bounds) (every-iff (every-map (λ x b. same-less _ (distance-stays x b)) stamps))
+  bv-stays = rw (k .reads) (every-iff (every-map bv-one stamps))
 
   pub fv-stays : KeepsFV (e ∷ h) t ↔ KeepsFV h t
-  fv-stays = rw (k .reads, k .start, k .bounds) (every-iff (every-map (λ x b. same-most _ (distance-stays x b)) stamps))
+  fv-stays = rw (k .reads) (every-iff (every-map fv-one stamps))
 
   pub sv-stays : KeepsSV (e ∷ h) t ↔ KeepsSV h t
-  sv-stays =
-      rw (k .reads, k .bounds)
-      (every-iff (every-map (λ x b. every-iff (every-map (λ y c. same-count _ (between-stays e h (x .key) (stampOf x) (stampOf y) (omega arith))) stamps)) stamps))
+  sv-stays = rw (k .reads) (every-iff (every-map (λ x b. every-iff (every-map (sv-one x) stamps)) stamps))
 
 -- a line names no transaction that committed before it
 pub past : {e : Record} {h : History} {l : Ledger} → Ran (e ∷ h) l → length h < nowhere → (u : ℕ) → 0 < commitLine h u → nameOf e ≢ u
@@ -82,17 +90,30 @@ pub wc-stays : {e : Record} {h : History} {l : Ledger} → Ran (e ∷ h) l → l
 wc-stays {e} {h} r small t c = (to, from)
   where
     to : KeepsWC (e ∷ h) t → KeepsWC h t
-    to k u x n wt wu a b =
-        let d : 0 < commitLine h u = omega arith in
-        k u x n (wrote-stays r small t c x ∙ wt) (wrote-stays r small u d x ∙ wu)
-        (omega (arith, start-stays r small t c, commit-stays r small u d)) (omega (arith, commit-stays r small t c, commit-stays r small u d))
+    to k u x o =
+        let d : 0 < commitLine h u = omega (arith, o .after) in
+        k u x
+        (record {
+          other = o .other;
+          own = wrote-stays r small t c x ∙ o .own;
+          theirs = wrote-stays r small u d x ∙ o .theirs;
+          after = omega (arith, start-stays r small t c, commit-stays r small u d, o .after);
+          before = omega (arith, commit-stays r small t c, commit-stays r small u d, o .before);
+        })
 
     from : KeepsWC h t → KeepsWC (e ∷ h) t
-    from k u x n wt wu a b = go (isCommit u e) refl
+    from k u x o = go (isCommit u e) refl
       where
         go : (i : Bool) → isCommit u e ≡ i → ⊥
-        go true q = omega (arith, line-here (isCommit u) e h q, commit-stays r small t c, line-le (isCommit t) h)
+        go true q = omega (arith, line-here (isCommit u) e h q, commit-stays r small t c, line-le (isCommit t) h, o .before)
         go false q =
             let z : commitLine (e ∷ h) u ≡ commitLine h u = line-past (isCommit u) e h q in
-            let d : 0 < commitLine h u = omega arith in
-            k u x n (sym (wrote-stays r small t c x) ∙ wt) (sym (wrote-stays r small u d x) ∙ wu) (omega (arith, start-stays r small t c)) (omega (arith, commit-stays r small t c))
+            let d : 0 < commitLine h u = omega (arith, o .after) in
+            k u x
+            (record {
+              other = o .other;
+              own = sym (wrote-stays r small t c x) ∙ o .own;
+              theirs = sym (wrote-stays r small u d x) ∙ o .theirs;
+              after = omega (arith, start-stays r small t c, o .after);
+              before = omega (arith, commit-stays r small t c, o .before);
+            })

@@ -1,3 +1,5 @@
+pub mod Parts
+pub mod Tuned
 pub mod Word
 pub mod Rows
 pub mod Order
@@ -6,12 +8,14 @@ pub mod Lines
 pub mod Fields
 pub mod Counts
 pub mod Chains
-pub mod Mirror
+pub mod Backwards
 pub mod Rules
 pub mod Later
 pub mod Overtaken
 pub mod Verdicts
+pub mod Open
 pub mod Tallies
+pub mod Table
 pub mod Refused
 pub mod Readings
 pub mod Example

@@ -11,8 +11,9 @@ use borrow.Author.Tests.{eqb-true, eq-eqb, ne-eqb, lt-ltb, ltb-true}
 use Rattle.lists.specs.Lists.{any}
 use Rattle.lists.proofs.Every.{every-map, any-none}
 use Rattle.records.specs.declared.Record.the-variants.{Commit}
+use Rattle.records.specs.Parts.{isStart, isCommit, isWrite}
 use Rattle.records.specs.declared.Row.{Row}
-use Rattle.records.specs.Written.{History, isStart, isCommit, isWrite, startLine, commitLine, wrote, KeepsWC}
+use Rattle.records.specs.Written.{History, startLine, commitLine, wrote, KeepsWC}
 use Rattle.records.specs.Ledger.{Ledger, rowOf, isOpen, nowhere, has, meets, overtakes}
 use Rattle.records.proofs.Word.{meets-none, meets-some}
 use Rattle.records.proofs.Lines.{line-past, line-here, line-le, any-past}
@@ -93,12 +94,18 @@ module _ {h : History} {l : Ledger} (r : Ran h l) (small : length h < nowhere) (
       as-written u x = any-past (isWrite u x) (Commit t) h refl
 
       to : Free → KeepsWC (Commit t ∷ h) t
-      to k u x n wt wu a b = k u x n (sym (as-written t x) ∙ wt) (sym (as-written u x) ∙ wu) (omega (arith, started, as-before u n))
+      to k u x o = k u x (o .other) (sym (as-written t x) ∙ o .own) (sym (as-written u x) ∙ o .theirs) (omega (arith, started, as-before u (o .other), o .after))
 
       from : KeepsWC (Commit t ∷ h) t → Free
       from k u x n wt wu a =
-          k u x n (as-written t x ∙ wt) (as-written u x ∙ wu) (omega (arith, started, as-before u n))
-          (omega (arith, as-before u n, line-le (isCommit u) h, line-here (isCommit t) (Commit t) h (eq-eqb t t refl)))
+          k u x
+          (record {
+            other = n;
+            own = as-written t x ∙ wt;
+            theirs = as-written u x ∙ wu;
+            after = omega (arith, started, as-before u n);
+            before = omega (arith, as-before u n, line-le (isCommit u) h, line-here (isCommit t) (Commit t) h (eq-eqb t t refl));
+          })
 
   pub wc-tests : (any (overtakes (suc (length h)) (rowOf (l .rows) t)) (l .rows) ≡ false) ↔ KeepsWC (Commit t ∷ h) t
   wc-tests = Iff·trans free-tests free-rule

@@ -10,15 +10,15 @@ use lib.Dec.{eqb}
 use lib.ListN.{length}
 use borrow.Author.Tests.{eqb-true, eq-eqb, ne-eqb}
 use Rattle.lists.specs.Lists.{any, filter, Every, also}
+use Rattle.records.specs.Parts.{nameOf, aborts, isRead, isCommit, isAbort}
 use Rattle.records.specs.declared.Record.{Record}
-use Rattle.records.specs.declared.Record.the-variants.{Start, Tune, Read, Write, Commit, Abort}
-use Rattle.records.specs.Written.{History, ReadLine, readLines, recordedReads, isOwn, isCommit, commitLine, wrote, versionLines, KeepsRC}
-use Rattle.records.specs.Ledger.{Ledger, nameOf, nowhere}
-use Rattle.records.specs.Mirror.{isAbort}
+use Rattle.records.specs.declared.Record.the-variants.{Start, Read, Write, Commit}
+use Rattle.records.specs.Written.{History, ReadLine, readOf, readLines, recordedReads, isOwn, commitLine, wrote, versionLines, WithinRC, KeepsRC}
+use Rattle.records.specs.Ledger.{Ledger, nowhere}
 use Rattle.records.specs.Judge.{Taken}
+use Rattle.records.proofs.Parts.{abort-is}
 use Rattle.records.proofs.Lines.{line-none, any-past}
 use Rattle.records.proofs.Runs.{Ran, bare, began, moved, ran}
-use Rattle.records.proofs.Rules.{WithinRC}
 use Rattle.records.proofs.Fields.{other-commit, other-abort, not-ended}
 
 module _ (h : History) (t x : ℕ) where
@@ -68,12 +68,11 @@ module _ (h : History) (t x : ℕ) where
 
 -- no transaction both commits and aborts
 ends-once : (t : ℕ) (e : Record) → isAbort t e ≡ true → isCommit t e ≡ false
-ends-once t (Start u) a = refl
-ends-once t (Tune u b) a = refl
-ends-once t (Read u x w) a = refl
-ends-once t (Write u x) a = refl
-ends-once t (Commit u) a = absurd (false≢true a)
-ends-once t (Abort u) a = refl
+ends-once t e a = go (aborts e) refl a
+  where
+    go : (b : Bool) → aborts e ≡ b → (b && eqb (nameOf e) t) ≡ true → isCommit t e ≡ false
+    go true k a = ap (isCommit t) (abort-is e k)
+    go false k a = absurd (false≢true a)
 
 either : (e : Record) (h : History) (t : ℕ) → (any (isCommit (nameOf e)) h ≡ false) × (any (isAbort (nameOf e)) h ≡ false)
     → (any (isAbort t) h ≡ true → any (isCommit t) h ≡ false) → any (isAbort t) (e ∷ h) ≡ true → any (isCommit t) (e ∷ h) ≡ false
@@ -97,19 +96,14 @@ aborted-read {h} taken lines t x w version n a = open-read h t x w version n (no
 -- and no later line mends a broken RC
 pub never-mended : (e : Record) (h : History) (t : ℕ) → KeepsRC (e ∷ h) t → KeepsRC h t
 unfolding recordedReads readLines filter
-never-mended (Start u) h t k = k
-never-mended (Tune u b) h t k = k
-never-mended (Read u x w) h t k = go (eqb u t) (not (isOwn t (record { key = x; source = w; before = h }))) refl k
+never-mended e h t k = go (isRead t e) (not (isOwn t (readOf e h))) refl k
   where
-    go : (a b : Bool) → not (isOwn t (record { key = x; source = w; before = h })) ≡ b
-        → Every WithinRC (filter (λ (p : ReadLine). not (isOwn t p)) (cond a (record { key = x; source = w; before = h } ∷ readLines h t) (readLines h t)))
+    go : (a b : Bool) → not (isOwn t (readOf e h)) ≡ b
+        → Every WithinRC (filter (λ (p : ReadLine). not (isOwn t p)) (cond a (readOf e h ∷ readLines h t) (readLines h t)))
         → Every WithinRC (recordedReads h t)
     go true true e k = tail (rw e at k)
       where
-        tail : Every WithinRC (record { key = x; source = w; before = h } ∷ recordedReads h t) → Every WithinRC (recordedReads h t)
+        tail : {x : ReadLine} → Every WithinRC (x ∷ recordedReads h t) → Every WithinRC (recordedReads h t)
         tail (also p ps) = ps
     go true false e k = rw e at k
     go false b e k = k
-never-mended (Write u x) h t k = k
-never-mended (Commit u) h t k = k
-never-mended (Abort u) h t k = k

@@ -2,7 +2,7 @@
 use Prim.Native.Nat.{ℕ, _≤_, _<_}
 use native.Mathlib.Omega.{arith}
 use mathlib.Core.Path.{_≡_, refl, _∙_, ap, ap₂}
-use mathlib.Core.Logic.{_↔_, _⊎_, inl, inr}
+use mathlib.Core.Logic.{_↔_, inl, inr}
 use mathlib.Core.Bool.{Bool, true, false, cond, not, _&&_, _||_, or-true, false≢true}
 use mathlib.Core.List.{List}
 use lib.Dec.{eqb, ltb}
@@ -15,9 +15,10 @@ use Rattle.lists.specs.Along.{Along}
 use Rattle.lists.proofs.Along.{along-with, along-any}
 use Rattle.lists.proofs.Tests.{not-tests}
 use Rattle.units.specs.declared.Bounds.{Bounds}
+use Rattle.records.specs.Parts.{isStart}
 use Rattle.records.specs.declared.Row.{Row}
 use Rattle.records.specs.declared.Seen.{Seen}
-use Rattle.records.specs.Written.{History, ReadLine, recordedReads, isStart, startLine, commitLine, boundsIn, wrote, stampOf, upTo, between, distanceIn, KeepsRC, KeepsBV, KeepsFV, KeepsSV}
+use Rattle.records.specs.Written.{History, ReadLine, recordedReads, startLine, commitLine, boundsIn, wrote, stampOf, upTo, between, distanceIn, WithinRC, KeepsRC, KeepsBV, KeepsFV, KeepsSV}
 use Rattle.records.specs.Ledger.{Ledger, rowOf, nowhere, chain, unread, stale, early, apart, seenDistance, rowsUpTo, rowsBetween}
 use Rattle.records.specs.Mirror.{keeps, Resolves}
 use Rattle.records.proofs.Lines.{line-le}
@@ -25,10 +26,6 @@ use Rattle.records.proofs.Runs.{Ran}
 use Rattle.records.proofs.Fields.{start-tied, bounds-tied}
 use Rattle.records.proofs.Counts.{up-to-tied, between-tied}
 use Rattle.records.proofs.Chains.{reads-tied, reads-below, stamp-le}
-
--- the reading rule of one read
-abbrev pub WithinRC : ReadLine → Type 0
-WithinRC x = (x .source ≡ 0) ⊎ ((wrote (x .before) (x .source) (x .key) ≡ true) × (0 < commitLine (x .before) (x .source)))
 
 keeps-within : (x : ReadLine) → keeps x ≡ true → WithinRC x
 keeps-within x = go (eqb (x .source) 0) refl (wrote (x .before) (x .source) (x .key)) refl

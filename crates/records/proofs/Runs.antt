@@ -1,20 +1,20 @@
--- Histories whose lines were all taken, by what each line did: it started a transaction, or it moved one that is open. And that a history
--- leads to one ledger.
+-- Histories whose lines were all taken, by what each line did: it started a transaction, or it moved one that is open.
 use Prim.Native.Nat.{ℕ, suc}
 use native.Mathlib.Omega.{arith}
-use mathlib.Core.Path.{_≡_, refl, subst}
+use mathlib.Core.Path.{_≡_, refl, sym, subst}
 use mathlib.Core.Bool.{Bool, true, false, cond}
 use mathlib.Core.List.{[], _∷_}
 use lib.Dec.{leb}
 use lib.ListN.{length}
 use Rattle.lists.specs.Lists.{any}
+use Rattle.records.specs.Parts.{nameOf, starts}
 use Rattle.records.specs.declared.Record.{Record}
-use Rattle.records.specs.declared.Record.the-variants.{Start, Tune, Read, Write, Commit, Abort}
+use Rattle.records.specs.declared.Record.the-variants.{Start}
 use Rattle.records.specs.declared.Row.{Row}
 use Rattle.records.specs.Written.{History}
-use Rattle.records.specs.Ledger.{Ledger, blank, Outcome, refused, went, step, begun, rowOf, become, named, nameOf, isOpen, freshRow, changed, noted, concluded}
-use Rattle.records.specs.Tally.{starts}
-use Rattle.records.specs.Judge.{Taken, nothing, line, next, after}
+use Rattle.records.specs.Ledger.{Ledger, blank, refused, went, lineStep, begun, rowOf, become, named, isOpen, freshRow, changed, noted, concluded}
+use Rattle.records.specs.Judge.{Taken, nothing, line}
+use Rattle.records.proofs.Parts.{start-is}
 
 abbrev pub begunAt : ℕ → ℕ → Ledger → Ledger
 begunAt n t l = record { rows = freshRow n t ∷ l .rows; seens = l .seens; judged = l .judged }
@@ -55,38 +55,15 @@ module _ {h : History} {l : Ledger} (r : Ran h l) (l′ : Ledger) where
       go true p q = land (moved r s p) q
       go false p q = let z : _≡_ {A = ℕ} 0 1 = cc in absurd (omega arith)
 
-  one-more : (e : Record) → step (suc (length h)) e l ≡ went l′ → Ran (e ∷ h) l′
-  unfolding step
-  one-more (Start t) q = starting t q
-  one-more (Tune t b) q = moving (Tune t b) refl q
-  one-more (Read t x w) q = moving (Read t x w) refl q
-  one-more (Write t x) q = moving (Write t x) refl q
-  one-more (Commit t) q = moving (Commit t) refl q
-  one-more (Abort t) q = moving (Abort t) refl q
+  one-more : (e : Record) → lineStep (suc (length h)) e l ≡ went l′ → Ran (e ∷ h) l′
+  unfolding lineStep
+  one-more e = go (starts e) refl
+    where
+      go : (b : Bool) → starts e ≡ b → cond b (begun (suc (length h)) (nameOf e) l) (cond (isOpen (rowOf (l .rows) (nameOf e))) (went (movedAt (suc (length h)) e l)) (refused 15)) ≡ went l′
+          → Ran (e ∷ h) l′
+      go true s q = subst (λ (d : Record). Ran (d ∷ h) l′) (sym (start-is e s)) (starting (nameOf e) q)
+      go false s q = moving e s q
 
 pub ran : {h : History} {l : Ledger} → Taken h l → Ran h l
 ran nothing = bare
 ran (line {r = e} {l′ = m} t q) = one-more (ran t) m e q
-
--- a history leads to one ledger
-pub taken-once : {h : History} {l m : Ledger} → Taken h l → Taken h m → l ≡ m
-taken-once nothing nothing = refl
-taken-once (line {h} {r = e} {l′ = l} t p) (line {l′ = m} u q) = same (taken-once t u) p q
-  where
-    same : {a b : Ledger} → a ≡ b → step (suc (length h)) e a ≡ went l → step (suc (length h)) e b ≡ went m → l ≡ m
-    same z p q = cc
-
--- the function and the relation say the same
-pub taken-after : {h : History} {l : Ledger} → Taken h l → after h ≡ went l
-unfolding after
-taken-after nothing = refl
-taken-after (line t q) = rw (taken-after t) q
-
-pub after-taken : (h : History) (l : Ledger) → after h ≡ went l → Taken h l
-unfolding after
-after-taken [] l e = let z : blank ≡ l = cc in subst (λ (m : Ledger). Taken [] m) z nothing
-after-taken (r ∷ h) l e = go (after h) (after-taken h) e
-  where
-    go : (o : Outcome) → ((m : Ledger) → o ≡ went m → Taken h m) → next (suc (length h)) r o ≡ went l → Taken (r ∷ h) l
-    go (refused k) f e = let z : _≡_ {A = ℕ} 0 1 = cc in absurd (omega arith)
-    go (went m) f e = line (f m refl) e

@@ -8,18 +8,20 @@ use lib.ListN.{length}
 use borrow.Author.Tests.{ne-eqb}
 use Rattle.lists.specs.Lists.{count, bit}
 use Rattle.lists.proofs.Count.{count-le, count-empty, count-step}
+use Rattle.records.specs.Parts.{nameOf, starts, commits, aborts}
 use Rattle.records.specs.declared.Record.{Record}
 use Rattle.records.specs.declared.Record.the-variants.{Start, Tune, Read, Write, Commit, Abort}
 use Rattle.records.specs.declared.Row.{Row}
 use Rattle.records.specs.declared.Totals.{Totals}
 use Rattle.records.specs.Written.{History}
-use Rattle.records.specs.Ledger.{Ledger, rowOf, nameOf, isOpen, nowhere, freshRow, changed, isRecorded}
+use Rattle.records.specs.Ledger.{Ledger, rowOf, isOpen, nowhere, freshRow, changed, isRecorded}
 use Rattle.records.specs.Totals.{noTotals, raised, more}
-use Rattle.records.specs.Tally.{starts, commits, aborts, totalsOf, Counts}
+use Rattle.records.specs.Tally.{totalsOf, Counts}
 use Rattle.records.specs.Judge.{Taken}
 use Rattle.records.proofs.Rows.{open-there, become-count}
 use Rattle.records.proofs.Runs.{Ran, bare, began, moved, movedAt, ran}
 use Rattle.records.proofs.Fields.{read-keeps}
+use Rattle.records.proofs.Open.{open-rest}
 
 -- a total that each record of one kind raises
 module _ (f : Totals → ℕ) (p : Record → Bool) (zero-first : f noTotals ≡ 0) (raises : (e : Record) (n : Totals) → f (raised e n) ≡ cond (p e) (more (f n)) (f n)) where
@@ -87,7 +89,7 @@ open-moves n e l s o =
       ap bit o,
     )
 
-open-rows : {h : History} {l : Ledger} → Ran h l → count isOpen (l .rows) + count commits h + count aborts h ≡ count starts h
+pub open-rows : {h : History} {l : Ledger} → Ran h l → count isOpen (l .rows) + count commits h + count aborts h ≡ count starts h
 unfolding bit
 open-rows bare = omega (arith, count-empty {A = Row} isOpen, count-empty commits, count-empty aborts, count-empty starts)
 open-rows (began {h} {t = t} {l = l} r k) =
@@ -121,12 +123,11 @@ open-counted (moved {h} {e} {l} r s o) small = omega (arith, lowers e (totalsOf 
 
 -- what the totals say of a history
 module _ {h : History} {l : Ledger} (taken : Taken h l) (lines : length h ≤ 4096) where
-  pub totals-right : Counts h l (totalsOf h)
+  pub totals-right : Counts h (totalsOf h)
   totals-right =
       record {
         started = started-counted h (omega arith);
         committed = committed-counted h (omega arith);
         aborted = aborted-counted h (omega arith);
-        «open» = open-counted (ran taken) (omega arith);
-        rest = omega (arith, open-counted (ran taken) (omega arith), open-rows (ran taken));
+        «open» = omega (arith, open-counted (ran taken) (omega arith), open-rows (ran taken), open-rest (ran taken) (omega arith));
       }

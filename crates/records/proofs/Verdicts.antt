@@ -4,23 +4,25 @@ use Prim.Native.Nat.{ℕ, suc, _≤_, _<_}
 use native.Mathlib.Omega.{arith}
 use mathlib.Core.Path.{_≡_, refl, sym, _∙_, ap, subst}
 use mathlib.Core.Logic.{_↔_, Iff·rfl}
-use mathlib.Core.Bool.{Bool, true, false, not, true≢false}
+use mathlib.Core.Bool.{Bool, true, false, cond, not, _&&_, _||_, true≢false}
 use mathlib.Core.List.{[], _∷_, map, reverse}
 use lib.Dec.{T, T-not, eqb, eqb-refl}
-use lib.ListN.{length, length-map}
+use lib.ListN.{length, length-map, length-reverse}
 use borrow.Author.Tests.{eqb-false, eq-eqb}
-use Rattle.lists.specs.Lists.{any, count, Every, none, also}
+use Rattle.lists.specs.Lists.{any, count, filter, Every, none, also}
 use Rattle.lists.specs.Members.{Distinct, empty, apart}
 use Rattle.lists.proofs.Every.{every-map, none-any}
+use Rattle.records.specs.Parts.{isStart, isCommit, nameOf, commits}
 use Rattle.records.specs.declared.Record.{Record}
-use Rattle.records.specs.declared.Record.the-variants.{Start, Tune, Read, Write, Commit, Abort}
+use Rattle.records.specs.declared.Record.the-variants.{Commit}
 use Rattle.records.specs.declared.Verdict.{Verdict}
 use Rattle.records.specs.declared.Verdict.the-variants.{Ok, RC, BV, FV, SV, WC}
 use Rattle.records.specs.declared.Judged.{Judged}
-use Rattle.records.specs.Written.{History, isStart, isCommit, commitLine, KeepsRC, KeepsBV, KeepsFV, KeepsSV, KeepsWC}
-use Rattle.records.specs.Ledger.{Ledger, rowOf, nameOf, isOpen, nowhere, first, verdictOn, chain, concluded}
-use Rattle.records.specs.Tally.{commits}
+use Rattle.records.specs.Written.{History, commitLine, KeepsRC, KeepsBV, KeepsFV, KeepsSV, KeepsWC}
+use Rattle.records.specs.Ledger.{Ledger, rowOf, isOpen, nowhere, first, verdictOn, chain, concluded}
 use Rattle.records.specs.Judge.{Taken, committedIn, Names, Right}
+use Rattle.records.proofs.Backwards.{map-reverse, every-reverse}
+use Rattle.records.proofs.Parts.{commit-is}
 use Rattle.records.proofs.Lines.{line-here}
 use Rattle.records.proofs.Rows.{open-there}
 use Rattle.records.proofs.Runs.{Ran, bare, began, moved, ran}
@@ -83,8 +85,10 @@ stays {e} {h} r small j k =
     s = steady-other e h t (past r small t c)
 
 -- the line of the commit
-judges-now : {h : History} {l : Ledger} → Ran h l → length h < nowhere → (t : ℕ) → isOpen (rowOf (l .rows) t) ≡ true
-    → Judges (Commit t ∷ h) (record { name = t; verdict = verdictOn (l .rows) (chain (l .seens) (rowOf (l .rows) t .last)) (suc (length h)) (rowOf (l .rows) t) })
+abbrev judgedNow : History → Ledger → ℕ → Judged
+judgedNow h l t = record { name = t; verdict = verdictOn (l .rows) (chain (l .seens) (rowOf (l .rows) t .last)) (suc (length h)) (rowOf (l .rows) t) }
+
+judges-now : {h : History} {l : Ledger} → Ran h l → length h < nowhere → (t : ℕ) → isOpen (rowOf (l .rows) t) ≡ true → Judges (Commit t ∷ h) (judgedNow h l t)
 unfolding verdictOn
 judges-now {h} {l} r small t o =
     record {
@@ -104,16 +108,11 @@ judging : {h : History} {l : Ledger} → Ran h l → length h ≤ nowhere → Ev
 unfolding concluded
 judging bare small = none
 judging (began r k) small = every-map (λ j i. stays (began r k) small j i) (judging r (omega arith))
-judging (moved {h} {e} {l} r s o) small = concludes e o (every-map (λ j i. stays (moved r s o) small j i) (judging r (omega arith)))
+judging (moved {h} {e} {l} r s o) small = go (commits e) refl (every-map (λ j i. stays (moved r s o) small j i) (judging r (omega arith)))
   where
-    concludes : (e : Record) → isOpen (rowOf (l .rows) (nameOf e)) ≡ true → Every (Judges (e ∷ h)) (l .judged)
-        → Every (Judges (e ∷ h)) (concluded (suc (length h)) (l .rows) (l .seens) e (rowOf (l .rows) (nameOf e)) (l .judged))
-    concludes (Start t) o k = k
-    concludes (Tune t b) o k = k
-    concludes (Read t x w) o k = k
-    concludes (Write t x) o k = k
-    concludes (Commit t) o k = also (judges-now r small t o) k
-    concludes (Abort t) o k = k
+    go : (b : Bool) → commits e ≡ b → Every (Judges (e ∷ h)) (l .judged) → Every (Judges (e ∷ h)) (cond b (judgedNow h l (nameOf e) ∷ l .judged) (l .judged))
+    go true c k = also (subst (λ (d : Record). Judges (d ∷ h) (judgedNow h l (nameOf e))) (sym (commit-is e c)) (judges-now r small (nameOf e) o)) k
+    go false c k = k
 
 -- two different verdicts
 abbrev code : Verdict → ℕ
@@ -154,63 +153,55 @@ names (breaks-wc a b c d e) =
 
 -- each committed transaction is judged, in order of commit lines
 judged-names : {h : History} {l : Ledger} → Ran h l → map (λ (j : Judged). j .name) (l .judged) ≡ committedIn h
-unfolding concluded committedIn
+unfolding concluded committedIn filter
 judged-names bare = refl
 judged-names (began r k) = judged-names r
-judged-names (moved {h} {e} {l} r s o) = concludes e (judged-names r)
+judged-names (moved {h} {e} {l} r s o) = go (commits e) (judged-names r)
   where
-    concludes : (e : Record) → map (λ (j : Judged). j .name) (l .judged) ≡ committedIn h
-        → map (λ (j : Judged). j .name) (concluded (suc (length h)) (l .rows) (l .seens) e (rowOf (l .rows) (nameOf e)) (l .judged)) ≡ committedIn (e ∷ h)
-    concludes (Start t) k = k
-    concludes (Tune t b) k = k
-    concludes (Read t x w) k = k
-    concludes (Write t x) k = k
-    concludes (Commit t) k = rw k
-    concludes (Abort t) k = k
+    go : (b : Bool) → map (λ (j : Judged). j .name) (l .judged) ≡ committedIn h
+        → map (λ (j : Judged). j .name) (cond b (judgedNow h l (nameOf e) ∷ l .judged) (l .judged)) ≡ map nameOf (cond b (e ∷ filter commits h) (filter commits h))
+    go true k = rw k
+    go false k = k
 
 -- a name stands among them exactly if it has a commit line
 committed-any : (h : History) (t : ℕ) → any (λ (n : ℕ). eqb n t) (committedIn h) ≡ any (isCommit t) h
-unfolding any committedIn
+unfolding any committedIn filter
 committed-any [] t = refl
-committed-any (Start u ∷ h) t = committed-any h t
-committed-any (Tune u b ∷ h) t = committed-any h t
-committed-any (Read u x w ∷ h) t = committed-any h t
-committed-any (Write u x ∷ h) t = committed-any h t
-committed-any (Commit u ∷ h) t = rw (committed-any h t)
-committed-any (Abort u ∷ h) t = committed-any h t
+committed-any (e ∷ h) t = go (commits e) (committed-any h t)
+  where
+    go : (b : Bool) → any (λ (n : ℕ). eqb n t) (committedIn h) ≡ any (isCommit t) h
+        → any (λ (n : ℕ). eqb n t) (map nameOf (cond b (e ∷ filter commits h) (filter commits h))) ≡ (b && eqb (nameOf e) t || any (isCommit t) h)
+    go true k = rw k
+    go false k = k
 
 committed-once : {h : History} {l : Ledger} → Ran h l → length h ≤ nowhere → Distinct (committedIn h)
-unfolding committedIn
+unfolding committedIn filter
 committed-once bare small = empty
 committed-once (began r k) small = committed-once r (omega arith)
-committed-once (moved {h} {e} {l} r s o) small = adds e (not-ended {e = e} (moved r s o) small .0) (committed-once r (omega arith))
+committed-once (moved {h} {e} {l} r s o) small = go (commits e) (not-ended {e = e} (moved r s o) small .0) (committed-once r (omega arith))
   where
-    adds : (e : Record) → any (isCommit (nameOf e)) h ≡ false → Distinct (committedIn h) → Distinct (committedIn (e ∷ h))
-    adds (Start t) n k = k
-    adds (Tune t b) n k = k
-    adds (Read t x w) n k = k
-    adds (Write t x) n k = k
-    adds (Commit t) n k = apart (every-map (λ m e q. eqb-false m t e q) (none-any (λ (m : ℕ). eqb m t) (committedIn h) (committed-any h t ∙ n))) k
-    adds (Abort t) n k = k
+    go : (b : Bool) → any (isCommit (nameOf e)) h ≡ false → Distinct (committedIn h) → Distinct (map nameOf (cond b (e ∷ filter commits h) (filter commits h)))
+    go true n k = apart (every-map (λ m q. eqb-false m (nameOf e) q) (none-any (λ (m : ℕ). eqb m (nameOf e)) (committedIn h) (committed-any h (nameOf e) ∙ n))) k
+    go false n k = k
 
 -- as many as commit lines
 committed-number : (h : History) → length (committedIn h) ≡ count commits h
-unfolding committedIn count
+unfolding committedIn count filter
 committed-number [] = refl
-committed-number (Start t ∷ h) = committed-number h
-committed-number (Tune t b ∷ h) = committed-number h
-committed-number (Read t x w ∷ h) = committed-number h
-committed-number (Write t x ∷ h) = committed-number h
-committed-number (Commit t ∷ h) = ap suc (committed-number h)
-committed-number (Abort t ∷ h) = committed-number h
+committed-number (e ∷ h) = go (commits e) (committed-number h)
+  where
+    go : (b : Bool) → length (committedIn h) ≡ count commits h
+        → length (map nameOf (cond b (e ∷ filter commits h) (filter commits h))) ≡ cond b (suc (count commits h)) (count commits h)
+    go true k = ap suc k
+    go false k = k
 
-pub judge-right : {h : History} {l : Ledger} → Taken h l → length h ≤ 4096 → Right h l
+pub judge-right : {h : History} {l : Ledger} → Taken h l → length h ≤ 4096 → Right h (reverse (l .judged))
 judge-right {h} {l} taken lines =
     let r = ran taken in
     record {
-      order = ap reverse (judged-names r);
+      order = map-reverse (λ (j : Judged). j .name) (l .judged) ∙ ap reverse (judged-names r);
       those = committed-any h;
       once = committed-once r (omega arith);
-      number = sym (length-map (l .judged) (λ (j : Judged). j .name)) ∙ ap length (judged-names r) ∙ committed-number h;
-      verdicts = every-map (λ j k. names (k .right)) (judging r (omega arith));
+      number = length-reverse (l .judged) ∙ sym (length-map (l .judged) (λ (j : Judged). j .name)) ∙ ap length (judged-names r) ∙ committed-number h;
+      verdicts = every-reverse (every-map (λ j k. names (k .right)) (judging r (omega arith)));
     }

@@ -5,40 +5,24 @@ use mathlib.Core.Logic.{_↔_}
 use mathlib.Core.Path.{_≡_}
 use lib.Dec.{eqb}
 use lib.ListN.{length}
-use Rattle.lists.specs.Lists.{any, count, Every}
+use Rattle.lists.specs.Lists.{any, count, filter, Every}
 use Rattle.lists.specs.Members.{Distinct}
 use Rattle.records.specs.declared.Record.{Record}
-use Rattle.records.specs.declared.Record.the-variants.{Start, Tune, Read, Write, Commit, Abort}
+use Rattle.records.specs.Parts.{nameOf, commits, isCommit}
 use Rattle.records.specs.declared.Verdict.{Verdict}
 use Rattle.records.specs.declared.Verdict.the-variants.{Ok, RC, BV, FV, SV, WC}
-use Rattle.records.specs.Written.{History, isCommit, KeepsRC, KeepsBV, KeepsFV, KeepsSV, KeepsWC}
-use Rattle.records.specs.Ledger.{Ledger, Outcome, refused, went, blank, step}
+use Rattle.records.specs.Written.{History, KeepsRC, KeepsBV, KeepsFV, KeepsSV, KeepsWC}
+use Rattle.records.specs.Ledger.{Ledger, went, blank, lineStep}
 use Rattle.records.specs.declared.Judged.{Judged}
-use Rattle.records.specs.Tally.{commits}
 
 -- the ledger after the lines of a history, where none of them is refused
 pub data Taken : History → Ledger → Type 0 where
   nothing : Taken [] blank
-  line : {h : History} {r : Record} {l l′ : Ledger} → Taken h l → step (suc (length h)) r l ≡ went l′ → Taken (r ∷ h) l′
-
--- the same as a function: refused at the first line that is
-abbrev pub next : ℕ → Record → Outcome → Outcome
-next n r (refused k) = refused k
-next n r (went l) = step n r l
-
-unfoldable pub after : History → Outcome
-after [] = went blank
-after (r ∷ h) = next (suc (length h)) r (after h)
+  line : {h : History} {r : Record} {l l′ : Ledger} → Taken h l → lineStep (suc (length h)) r l ≡ went l′ → Taken (r ∷ h) l′
 
 -- the transactions that committed, the last commit line first
 unfoldable pub committedIn : History → List ℕ
-committedIn [] = []
-committedIn (Start t ∷ h) = committedIn h
-committedIn (Tune t b ∷ h) = committedIn h
-committedIn (Read t x w ∷ h) = committedIn h
-committedIn (Write t x ∷ h) = committedIn h
-committedIn (Commit t ∷ h) = t ∷ committedIn h
-committedIn (Abort t ∷ h) = committedIn h
+committedIn h = map nameOf (filter commits h)
 
 -- "The first broken of RC, BV, FV, SV, WC is named": what a verdict on a transaction says of its whole history
 pub record Names (h : History) (t : ℕ) (v : Verdict) : Type 0 where
@@ -49,10 +33,11 @@ pub record Names (h : History) (t : ℕ) (v : Verdict) : Type 0 where
   pub sv : (v ≡ SV) ↔ (KeepsRC h t × KeepsBV h t × KeepsFV h t × ¬ KeepsSV h t)
   pub wc : (v ≡ WC) ↔ (KeepsRC h t × KeepsBV h t × KeepsFV h t × KeepsSV h t × ¬ KeepsWC h t)
 
--- the judge is right on a history: it judges those that committed, each once, in order of commit lines, and each as the rules say
-pub record Right (h : History) (l : Ledger) : Type 0 where
-  pub order : reverse (map (λ (j : Judged). j .name) (l .judged)) ≡ reverse (committedIn h)
+-- the judge is right on a history, its verdicts in the order in which they are printed: it judges those that committed, each once, "in order of
+-- commit lines", and each as the rules say
+pub record Right (h : History) (js : List Judged) : Type 0 where
+  pub order : map (λ (j : Judged). j .name) js ≡ reverse (committedIn h)
   pub those : (t : ℕ) → any (λ (n : ℕ). eqb n t) (committedIn h) ≡ any (isCommit t) h
   pub once : Distinct (committedIn h)
-  pub number : length (l .judged) ≡ count commits h
-  pub verdicts : Every (λ (j : Judged). Names h (j .name) (j .verdict)) (l .judged)
+  pub number : length js ≡ count commits h
+  pub verdicts : Every (λ (j : Judged). Names h (j .name) (j .verdict)) js

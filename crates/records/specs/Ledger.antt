@@ -1,7 +1,7 @@
 -- The judge in one pass: what it remembers while it reads, and what each record does to that. At its line a read is resolved for good, and
 -- at the commit line every version that the rules count is known, so the verdict is made there.
-use Prim.Native.Nat.{ℕ, suc, _+_, _/_, _%_, _^_, max}
-use mathlib.Core.Bool.{Bool, true, false, cond, _&&_, _||_, not}
+use Prim.Native.Nat.{ℕ, suc, _/_, _%_, _^_}
+use mathlib.Core.Bool.{Bool, true, false, cond, _&&_, not}
 use mathlib.Core.List.{List, [], _∷_}
 use lib.Bits.{bitAnd, bitOr}
 use lib.Dec.{eqb, leb, ltb}
@@ -10,9 +10,9 @@ use lib.ListN.{length}
 use lib.Signed.{ltZ, leZ}
 use Rattle.lists.specs.Lists.{any, count}
 use Rattle.units.specs.Bounds.{default}
-use Rattle.units.specs.declared.Bounds.{Bounds}
 use Rattle.records.specs.declared.Record.{Record}
 use Rattle.records.specs.declared.Record.the-variants.{Start, Tune, Read, Write, Commit, Abort}
+use Rattle.records.specs.Parts.{partsOf, nameOf, starts, isReading, commits}
 use Rattle.records.specs.declared.Verdict.{Verdict}
 use Rattle.records.specs.declared.Verdict.the-variants.{Ok, RC, BV, FV, SV, WC}
 use Rattle.records.specs.declared.Row.{Row}
@@ -41,14 +41,6 @@ plus word x = bitOr word (2 ^ x)
 
 abbrev pub meets : ℕ → ℕ → Bool
 meets a b = not (eqb (bitAnd a b) 0)
-
-abbrev pub nameOf : Record → ℕ
-nameOf (Start t) = t
-nameOf (Tune t b) = t
-nameOf (Read t x w) = t
-nameOf (Write t x) = t
-nameOf (Commit t) = t
-nameOf (Abort t) = t
 
 abbrev pub noRow : Row
 noRow = record { name = 0; start = 0; end = nowhere; keys = 0; bounds = record { k1 = 0; k2 = 0; k3 = 0 }; last = 0 }
@@ -148,21 +140,14 @@ changed line n (Abort t) r = withEnd r nowhere
 
 -- to the recorded reads
 unfoldable pub noted : List Row → Record → Row → List Seen → List Seen
-noted rows (Start t) r ss = ss
-noted rows (Tune t b) r ss = ss
-noted rows (Read t x w) r ss = cond (isRecorded r x w) (record { key = x; line = resolved rows w x; before = r .last } ∷ ss) ss
-noted rows (Write t x) r ss = ss
-noted rows (Commit t) r ss = ss
-noted rows (Abort t) r ss = ss
+noted rows e r ss =
+    cond (isReading e && isRecorded r (partsOf e .key) (partsOf e .source))
+    (record { key = partsOf e .key; line = resolved rows (partsOf e .source) (partsOf e .key); before = r .last } ∷ ss)
+    ss
 
 -- and to the verdicts
 unfoldable pub concluded : ℕ → List Row → List Seen → Record → Row → List Judged → List Judged
-concluded line rows ss (Start t) r js = js
-concluded line rows ss (Tune t b) r js = js
-concluded line rows ss (Read t x w) r js = js
-concluded line rows ss (Write t x) r js = js
-concluded line rows ss (Commit t) r js = record { name = t; verdict = verdictOn rows (chain ss (r .last)) line r } ∷ js
-concluded line rows ss (Abort t) r js = js
+concluded line rows ss e r js = cond (commits e) (record { name = nameOf e; verdict = verdictOn rows (chain ss (r .last)) line r } ∷ js) js
 
 pub data Outcome : Type 0 where
   refused : (number : ℕ) → Outcome
@@ -187,10 +172,5 @@ moved line e l =
     }))
     (refused 15)
 
-unfoldable pub step : ℕ → Record → Ledger → Outcome
-step line (Start t) l = begun line t l
-step line (Tune t b) l = moved line (Tune t b) l
-step line (Read t x w) l = moved line (Read t x w) l
-step line (Write t x) l = moved line (Write t x) l
-step line (Commit t) l = moved line (Commit t) l
-step line (Abort t) l = moved line (Abort t) l
+unfoldable pub lineStep : ℕ → Record → Ledger → Outcome
+lineStep line e l = cond (starts e) (begun line (nameOf e) l) (moved line e l)

@@ -1,4 +1,6 @@
+pub mod Parts
 pub mod Written
+pub mod Refused
 pub mod Ledger
 pub mod Order
 pub mod Totals

@@ -1,27 +1,13 @@
--- What the ledger after the lines of a history holds of them, and which line is refused, in words of the history alone.
-use Prim.Native.Nat.{ℕ, _≤_, _<_}
-use mathlib.Core.Bool.{Bool, true, false, cond, not, _&&_, _||_}
-use mathlib.Core.List.{map}
+-- What the ledger after the lines of a history holds, in words of these lines: where a transaction ended, and what a kept read is.
+use Prim.Native.Nat.{ℕ}
+use mathlib.Core.Bool.{Bool, cond, _&&_, _||_}
 use mathlib.Core.Path.{_≡_}
-use lib.Dec.{eqb, leb, ltb}
-use Rattle.lists.specs.Lists.{any, count}
-use Rattle.lists.specs.Members.{Distinct}
-use Rattle.lists.specs.Along.{Along}
-use Rattle.records.specs.declared.Record.{Record}
-use Rattle.records.specs.declared.Record.the-variants.{Start, Tune, Read, Write, Commit, Abort}
-use Rattle.records.specs.declared.Row.{Row}
+use lib.Dec.{eqb, ltb}
+use Rattle.lists.specs.Lists.{any}
+use Rattle.records.specs.Parts.{isStart, isCommit, isAbort}
 use Rattle.records.specs.declared.Seen.{Seen}
-use Rattle.records.specs.Written.{History, ReadLine, isStart, isCommit, startLine, commitLine, boundsIn, wrote, recordedReads, stampOf, upTo, between}
-use Rattle.records.specs.Ledger.{Ledger, Outcome, refused, went, nowhere, named, rowOf, has, chain, rowsUpTo, rowsBetween}
-use Rattle.records.specs.Tally.{starts}
-
-abbrev pub isAbort : ℕ → Record → Bool
-isAbort t (Start u) = false
-isAbort t (Tune u b) = false
-isAbort t (Read u x w) = false
-isAbort t (Write u x) = false
-isAbort t (Commit u) = false
-isAbort t (Abort u) = eqb u t
+use Rattle.records.specs.Written.{History, ReadLine, commitLine, wrote, stampOf}
+use Rattle.records.specs.Ledger.{Outcome, refused, went, nowhere}
 
 -- where a transaction ended: the line of its commit, nowhere where it was aborted (or never started), 0 while it is open
 unfoldable pub endIn : History → ℕ → ℕ
@@ -36,32 +22,7 @@ pub record Resolves (s : Seen) (x : ReadLine) : Type 0 where
   pub key : s .key ≡ x .key
   pub line : s .line ≡ cond (keeps x) (stampOf x) nowhere
 
--- what a ledger holds is what the lines so far say
-pub record Mirrors (h : History) (l : Ledger) : Type 0 where
-  pub there : (t : ℕ) → any (named t) (l .rows) ≡ any (isStart t) h
-  pub distinct : Distinct (map (λ (q : Row). q .name) (l .rows))
-  pub start : (t : ℕ) → rowOf (l .rows) t .start ≡ startLine h t
-  pub end : (t : ℕ) → rowOf (l .rows) t .end ≡ endIn h t
-  pub keys : (t x : ℕ) → has (rowOf (l .rows) t .keys) x ≡ wrote h t x
-  pub bounds : (t : ℕ) → any (isStart t) h ≡ true → rowOf (l .rows) t .bounds ≡ boundsIn h t
-  pub reads : (t : ℕ) → Along Resolves (chain (l .seens) (rowOf (l .rows) t .last)) (recordedReads h t)
-  pub upto : (x c : ℕ) → c < nowhere → rowsUpTo (l .rows) x c ≡ upTo h x c
-  pub apart : (x after before : ℕ) → before ≤ nowhere → rowsBetween (l .rows) x after before ≡ between h x after before
-
--- a transaction that has started and not ended
-abbrev pub openIn : History → ℕ → Bool
-openIn h t = any (isStart t) h && not (any (isCommit t) h || any (isAbort t) h)
-
--- the number that document 01's table gives a record after the lines h, 0 where it is taken: "`s` of a number used before; another record of
--- one not started or already ended", "513th `s`"
-unfoldable pub refusalIn : History → Record → ℕ
-refusalIn h (Start t) = cond (any (isStart t) h) 15 (cond (leb 512 (count starts h)) 16 0)
-refusalIn h (Tune t b) = cond (openIn h t) 0 15
-refusalIn h (Read t x w) = cond (openIn h t) 0 15
-refusalIn h (Write t x) = cond (openIn h t) 0 15
-refusalIn h (Commit t) = cond (openIn h t) 0 15
-refusalIn h (Abort t) = cond (openIn h t) 0 15
-
-abbrev pub numberOf : Outcome → ℕ
-numberOf (refused n) = n
-numberOf (went l) = 0
+-- the number of an outcome, 0 where the line is taken
+abbrev pub outcomeNumber : Outcome → ℕ
+outcomeNumber (refused n) = n
+outcomeNumber (went l) = 0

@@ -1,8 +1,9 @@
 -- "The four totals are raised one line at a time as records are read; started is the number of `s` lines": started, committed, aborted
 -- and still open.
 use Prim.Native.Nat.{ℕ, _+_, _-_, min}
+use mathlib.Core.Bool.{cond}
 use Rattle.records.specs.declared.Record.{Record}
-use Rattle.records.specs.declared.Record.the-variants.{Start, Tune, Read, Write, Commit, Abort}
+use Rattle.records.specs.Parts.{starts, commits, aborts}
 use Rattle.records.specs.declared.Totals.{Totals}
 
 abbrev pub noTotals : Totals
@@ -23,9 +24,4 @@ raiseAborted t = record { started = t .started; committed = t .committed; aborte
 
 -- a record that starts or ends a transaction moves them
 abbrev pub raised : Record → Totals → Totals
-raised (Start t) n = raiseStarted n
-raised (Tune t b) n = n
-raised (Read t x w) n = n
-raised (Write t x) n = n
-raised (Commit t) n = raiseCommitted n
-raised (Abort t) n = raiseAborted n
+raised r n = cond (starts r) (raiseStarted n) (cond (commits r) (raiseCommitted n) (cond (aborts r) (raiseAborted n) n))

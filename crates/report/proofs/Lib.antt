@@ -1,5 +1,5 @@
 -- The laws of the judge's output, for this crate's proofs and for those of the program.
 pub mod Putting
 pub mod Lines
-pub mod Lengths
+pub mod Determined
 pub mod Example

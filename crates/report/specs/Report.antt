@@ -12,19 +12,19 @@ use Rattle.records.specs.declared.Verdict.{Verdict}
 use Rattle.records.specs.declared.Verdict.the-variants.{Ok, RC, BV, FV, SV, WC}
 
 -- the line of a field and those behind it: 32 is the space, 10 the newline
-unfoldable pub lineOf : List ℕ → List (List ℕ) → List ℕ
-lineOf f [] = f ++ (10 ∷ [])
-lineOf f (g ∷ gs) = f ++ (32 ∷ []) ++ lineOf g gs
+unfoldable pub spacedLine : List ℕ → List (List ℕ) → List ℕ
+spacedLine f [] = f ++ (10 ∷ [])
+spacedLine f (g ∷ gs) = f ++ (32 ∷ []) ++ spacedLine g gs
 
 -- `judge`, `total`, `refused`
-abbrev pub judge : List ℕ
-judge = 106 ∷ 117 ∷ 100 ∷ 103 ∷ 101 ∷ []
+abbrev pub judgeWord : List ℕ
+judgeWord = 106 ∷ 117 ∷ 100 ∷ 103 ∷ 101 ∷ []
 
-abbrev pub total : List ℕ
-total = 116 ∷ 111 ∷ 116 ∷ 97 ∷ 108 ∷ []
+abbrev pub totalWord : List ℕ
+totalWord = 116 ∷ 111 ∷ 116 ∷ 97 ∷ 108 ∷ []
 
-abbrev pub refused : List ℕ
-refused = 114 ∷ 101 ∷ 102 ∷ 117 ∷ 115 ∷ 101 ∷ 100 ∷ []
+abbrev pub refusedWord : List ℕ
+refusedWord = 114 ∷ 101 ∷ 102 ∷ 117 ∷ 115 ∷ 101 ∷ 100 ∷ []
 
 -- `ok` or the rule
 unfoldable pub verdictWord : Verdict → List ℕ
@@ -36,31 +36,31 @@ verdictWord SV = 83 ∷ 86 ∷ []
 verdictWord WC = 87 ∷ 67 ∷ []
 
 unfoldable pub headLine : ℕ → List ℕ
-headLine n = lineOf judge (decimal n ∷ [])
+headLine n = spacedLine judgeWord (decimal n ∷ [])
 
 unfoldable pub verdictLine : Judged → List ℕ
-verdictLine j = lineOf (decimal (j .name)) (verdictWord (j .verdict) ∷ [])
+verdictLine j = spacedLine (decimal (j .name)) (verdictWord (j .verdict) ∷ [])
 
 abbrev pub verdictLines : List Judged → List ℕ
 verdictLines js = joined verdictLine js
 
 unfoldable pub totalLine : Totals → List ℕ
-totalLine t = lineOf total (decimal (t .started) ∷ decimal (t .committed) ∷ decimal (t .aborted) ∷ decimal (t .«open») ∷ [])
+totalLine t = spacedLine totalWord (decimal (t .started) ∷ decimal (t .committed) ∷ decimal (t .aborted) ∷ decimal (t .«open») ∷ [])
 
 -- the verdicts in order of commit lines
 unfoldable pub reportText : List Judged → Totals → List ℕ
 reportText js t = headLine (length js) ++ verdictLines js ++ totalLine t
 
 unfoldable pub refusedText : ℕ → ℕ → List ℕ
-refusedText number line = lineOf refused (decimal number ∷ decimal line ∷ [])
+refusedText number line = spacedLine refusedWord (decimal number ∷ decimal line ∷ [])
 
 -- ---- the verdicts in two columns
 
 -- whose, and the verdict by its place in the order
-abbrev pub judged : ℕ → ℕ → Judged
-judged name code = record { name = name; verdict = verdictFrom code }
+abbrev pub judgedWith : ℕ → ℕ → Judged
+judgedWith name code = record { name = name; verdict = verdictFrom code }
 
 -- the first n verdicts, the oldest first
 unfoldable pub judgedList : List ℕ → List ℕ → ℕ → List Judged
 judgedList names codes zero = []
-judgedList names codes (suc n) = judgedList names codes n ++ (judged (getD names n 0) (getD codes n 0) ∷ [])
+judgedList names codes (suc n) = judgedList names codes n ++ (judgedWith (getD names n 0) (getD codes n 0) ∷ [])

@@ -6,8 +6,8 @@ ghost use lib.ListN.{length};
 ghost use Rattle.decimal.specs.Text.{decimal};
 ghost use Rattle.decimal.specs.Write.{put, Puts};
 ghost use Rattle.records.specs.Order.{verdictFrom};
-ghost use Rattle.report.specs.Report.{verdictWord, judged, judgedList, headLine, verdictLine, verdictLines, totalLine, reportText, refusedText};
-ghost use Rattle.report.specs.Write.{writtenAs};
+ghost use Rattle.report.specs.Report.{verdictWord, judgedWith, judgedList, headLine, verdictLine, verdictLines, totalLine, reportText, refusedText};
+ghost use Rattle.report.specs.Write.{writtenReply, writtenAs};
 use decimal::NEWLINE;
 use decimal::Put;
 use decimal::put_byte;
@@ -27,7 +27,7 @@ pub enum Written {
 const SPACE: u8 = b' ';
 
 // Room for any report: 17 bytes for its head, 14 for each of 512 verdicts, 50 for its totals.
-pub const LONGEST: usize = 7235;
+const LONGEST: usize = 7235;
 
 // Room for any refusal: 8 bytes for its word, 11 for each number.
 const LONGEST_REFUSED: usize = 30;
@@ -41,7 +41,7 @@ pub fn write_report(
     count: usize,
     totals: Totals,
 ) -> Written
-    ensures reply { λ r. ⌜ r ≡ writtenAs (now (room .entry)) (reportText (judgedList (now (names .entry)) (now (codes .entry)) (min count 512)) totals) ⌝ }
+    ensures reply { λ r. ⌜ writtenReply r ≡ writtenAs (now (room .entry)) (reportText (judgedList (now (names .entry)) (now (codes .entry)) (min count 512)) totals) ⌝ }
     ensures buffer { λ _. ⌜ now (room .exit) ≡ put (now (room .entry)) 0 (reportText (judgedList (now (names .entry)) (now (codes .entry)) (min count 512)) totals) ⌝ }
 {
     let mut text = [0u8; LONGEST];
@@ -51,7 +51,7 @@ pub fn write_report(
 
 // A refusal's number and its line.
 pub fn write_refused(room: &mut [u8], number: u8, line: u32) -> Written
-    ensures reply { λ r. ⌜ r ≡ writtenAs (now (room .entry)) (refusedText number line) ⌝ }
+    ensures reply { λ r. ⌜ writtenReply r ≡ writtenAs (now (room .entry)) (refusedText number line) ⌝ }
     ensures buffer { λ _. ⌜ now (room .exit) ≡ put (now (room .entry)) 0 (refusedText number line) ⌝ }
 {
     let mut text = [0u8; LONGEST_REFUSED];
@@ -61,7 +61,7 @@ pub fn write_refused(room: &mut [u8], number: u8, line: u32) -> Written
 
 // A text at the front of the room, where it fits.
 fn hand_over(room: &mut [u8], text: &[u8]) -> Written
-    ensures reply { λ r. ⌜ r ≡ writtenAs (now (room .entry)) (now (text .entry)) ⌝ }
+    ensures reply { λ r. ⌜ writtenReply r ≡ writtenAs (now (room .entry)) (now (text .entry)) ⌝ }
     ensures buffer { λ _. ⌜ now (room .exit) ≡ put (now (room .entry)) 0 (now (text .entry)) ⌝ }
 {
     let Put::Next(n) = put_text(room, 0, text) else {
@@ -135,7 +135,7 @@ fn put_verdicts(
 
 fn put_verdict(text: &mut [u8], at: usize, name: u32, code: u8) -> usize
     requires { ⌜ at + 14 ≤ length (now text) ⌝ }
-    ensures { λ r. ⌜ (Puts (now (text .entry)) (now (text .exit)) at (verdictLine (judged name code)) r) × (r ≤ at + 14) ⌝ }
+    ensures { λ r. ⌜ (Puts (now (text .entry)) (now (text .exit)) at (verdictLine (judgedWith name code)) r) × (r ≤ at + 14) ⌝ }
 {
     let a = put_number(text, at, name, SPACE);
     let word = word_of(code);

@@ -3,7 +3,7 @@ use Prim.Native.Nat.{ℕ}
 use mathlib.Core.Path.{_≡_, sym, ap, _∙_}
 use mathlib.Core.List.{List, []}
 use Rattle.records.specs.declared.Row.{Row}
-use Rattle.rows.specs.Table.{Table, table, stored}
+use Rattle.rows.specs.Table.{Table, table, rowStored}
 
 -- a reply that holds whatever stands in the columns not lent: find, count_within, count_between, overtaken, resolve
 pub one-reply : {A : Type 0} (f : Table → A) {r q : A} → ((t : Table) → r ≡ f t) → ((t : Table) → q ≡ f t) → r ≡ q
@@ -24,6 +24,6 @@ table-one p = (
 )
 
 -- store
-pub store-one : (t : Table) (i : ℕ) (r : Row) {a b c d e f g h a′ b′ c′ d′ e′ f′ g′ h′ : List ℕ} → table a b c d e f g h ≡ stored t i r → table a′ b′ c′ d′ e′ f′ g′ h′ ≡ stored t i r
+pub store-one : (t : Table) (i : ℕ) (r : Row) {a b c d e f g h a′ b′ c′ d′ e′ f′ g′ h′ : List ℕ} → table a b c d e f g h ≡ rowStored t i r → table a′ b′ c′ d′ e′ f′ g′ h′ ≡ rowStored t i r
     → (a ≡ a′) × (b ≡ b′) × (c ≡ c′) × (d ≡ d′) × (e ≡ e′) × (f ≡ f′) × (g ≡ g′) × (h ≡ h′)
 store-one t i r p q = table-one (p ∙ sym q)

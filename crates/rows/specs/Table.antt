@@ -31,8 +31,8 @@ abbrev pub withVersions : Table → List ℕ → List ℕ → Table
 withVersions t ends words = table (t .names) (t .starts) ends words (t .k1s) (t .k2s) (t .k3s) (t .lasts)
 
 -- a count past the limit counts as the limit
-abbrev pub used : ℕ → ℕ
-used count = min count 512
+abbrev pub rowsInUse : ℕ → ℕ
+rowsInUse count = min count 512
 
 abbrev pub rowAt : Table → ℕ → Row
 rowAt t i =
@@ -61,8 +61,8 @@ loaded t zero = noRow
 loaded t (suc i) = cond (ltb i 512) (rowAt t i) noRow
 
 -- a row stored at a place; past the columns' end nothing is stored
-abbrev pub stored : Table → ℕ → Row → Table
-stored t i r =
+abbrev pub rowStored : Table → ℕ → Row → Table
+rowStored t i r =
     table
     (set (t .names) i (r .name))
     (set (t .starts) i (r .start))

@@ -6,7 +6,7 @@ ghost use mathlib.Core.Path.{_≡_};
 ghost use lib.Dec.{leb, ltb};
 ghost use Rattle.lists.specs.Lists.{any, bit};
 ghost use Rattle.records.specs.Ledger.{has, meets, noRow, nowhere, overtakes, resolved, rowsBetween};
-ghost use Rattle.rows.specs.Table.{Table, Sized, table, withNames, withVersions, used, rowsOf, placeOf, loaded, stored, rowsWithin};
+ghost use Rattle.rows.specs.Table.{Table, Sized, table, withNames, withVersions, rowsInUse, rowsOf, placeOf, loaded, rowStored, rowsWithin};
 use records::ABORTED;
 use records::NOWHERE;
 use records::Row;
@@ -15,14 +15,14 @@ use units::at_most;
 use units::limits;
 
 pub fn in_use(count: usize) -> usize
-    ensures { λ r. ⌜ r ≡ used count ⌝ }
+    ensures { λ r. ⌜ r ≡ rowsInUse count ⌝ }
 {
     at_most(count, limits::TRANSACTIONS)
 }
 
 // The newest row of a name, by its number from 1; 0 where there is none.
 pub fn find(names: &[u32; limits::TRANSACTIONS], count: usize, name: u32) -> usize
-    ensures { λ r. ⌜ ((t : Table) → r ≡ placeOf (rowsOf (withNames t (now (names .entry))) (used count)) name) ⌝ }
+    ensures { λ r. ⌜ ((t : Table) → r ≡ placeOf (rowsOf (withNames t (now (names .entry))) (rowsInUse count)) name) ⌝ }
 {
     let mut i = in_use(count);
     while 0 < i {
@@ -99,7 +99,7 @@ pub fn store(
     i: usize,
     row: Row,
 )
-    ensures { λ r. ⌜ table (now (names .exit)) (now (starts .exit)) (now (ends .exit)) (now (words .exit)) (now (k1s .exit)) (now (k2s .exit)) (now (k3s .exit)) (now (lasts .exit)) ≡ stored (table (now (names .entry)) (now (starts .entry)) (now (ends .entry)) (now (words .entry)) (now (k1s .entry)) (now (k2s .entry)) (now (k3s .entry)) (now (lasts .entry))) i row ⌝ }
+    ensures { λ r. ⌜ table (now (names .exit)) (now (starts .exit)) (now (ends .exit)) (now (words .exit)) (now (k1s .exit)) (now (k2s .exit)) (now (k3s .exit)) (now (lasts .exit)) ≡ rowStored (table (now (names .entry)) (now (starts .entry)) (now (ends .entry)) (now (words .entry)) (now (k1s .entry)) (now (k2s .entry)) (now (k3s .entry)) (now (lasts .entry))) i row ⌝ }
 {
     sized(names, starts, ends, words, k1s, k2s, k3s, lasts);
     if i < limits::TRANSACTIONS {
@@ -163,7 +163,7 @@ pub fn count_within(
     after: u32,
     until: u32,
 ) -> u32
-    ensures { λ r. ⌜ ((t : Table) → r ≡ rowsWithin (rowsOf (withVersions t (now (ends .entry)) (now (words .entry))) (used count)) key after until) ⌝ }
+    ensures { λ r. ⌜ ((t : Table) → r ≡ rowsWithin (rowsOf (withVersions t (now (ends .entry)) (now (words .entry))) (rowsInUse count)) key after until) ⌝ }
 {
     let end = in_use(count);
     let mut n: u32 = 0;
@@ -205,7 +205,7 @@ pub fn count_between(
     after: u32,
     before: u32,
 ) -> u32
-    ensures { λ r. ⌜ ((t : Table) → r ≡ rowsBetween (rowsOf (withVersions t (now (ends .entry)) (now (words .entry))) (used count)) key after before) ⌝ }
+    ensures { λ r. ⌜ ((t : Table) → r ≡ rowsBetween (rowsOf (withVersions t (now (ends .entry)) (now (words .entry))) (rowsInUse count)) key after before) ⌝ }
 {
     if before == 0 {
         return 0;
@@ -221,7 +221,7 @@ pub fn overtaken(
     line: u32,
     row: Row,
 ) -> bool
-    ensures { λ r. ⌜ ((t : Table) → r ≡ any (overtakes line row) (rowsOf (withVersions t (now (ends .entry)) (now (words .entry))) (used count))) ⌝ }
+    ensures { λ r. ⌜ ((t : Table) → r ≡ any (overtakes line row) (rowsOf (withVersions t (now (ends .entry)) (now (words .entry))) (rowsInUse count))) ⌝ }
 {
     let end = in_use(count);
     let mut n: u32 = 0;
@@ -257,7 +257,7 @@ pub fn resolve(
     w: u32,
     key: u8,
 ) -> u32
-    ensures { λ r. ⌜ ((t : Table) → r ≡ resolved (rowsOf (withNames (withVersions t (now (ends .entry)) (now (words .entry))) (now (names .entry))) (used count)) w key) ⌝ }
+    ensures { λ r. ⌜ ((t : Table) → r ≡ resolved (rowsOf (withNames (withVersions t (now (ends .entry)) (now (words .entry))) (now (names .entry))) (rowsInUse count)) w key) ⌝ }
 {
     if w == 0 {
         return 0;

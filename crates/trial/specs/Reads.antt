@@ -16,8 +16,8 @@ abbrev pub reads : List ℕ → List ℕ → List ℕ → Reads
 reads keys lines befores = record { keys = keys; lines = lines; befores = befores }
 
 -- a count past the limit counts as the limit
-abbrev pub used : ℕ → ℕ
-used count = min count 4096
+abbrev pub readsInUse : ℕ → ℕ
+readsInUse count = min count 4096
 
 abbrev pub seenAt : Reads → ℕ → Seen
 seenAt s i = record { key = getD (s .keys) i 0; line = getD (s .lines) i 0; before = getD (s .befores) i 0 }

@@ -5,9 +5,8 @@ ghost use Prim.Native.Nat.{ℕ, min, max};
 ghost use mathlib.Core.List.{List};
 ghost use mathlib.Core.Path.{_≡_};
 ghost use Rattle.records.specs.Ledger.{chain, verdictOn};
-ghost use Rattle.rows.specs.Table.{Table, withVersions, rowsOf};
-ghost use Rattle.rows.specs.Table as table;
-ghost use Rattle.trial.specs.Reads.{reads, used, seensOf, among};
+ghost use Rattle.rows.specs.Table.{Table, withVersions, rowsInUse, rowsOf};
+ghost use Rattle.trial.specs.Reads.{reads, readsInUse, seensOf, among};
 ghost use Rattle.trial.specs.Trial.{latestOf, rules, rankOf, farOf, leastOf};
 use records::NOWHERE;
 use records::Row;
@@ -19,7 +18,7 @@ use units::at_most;
 use units::limits;
 
 pub fn in_use(count: usize) -> usize
-    ensures { λ r. ⌜ r ≡ used count ⌝ }
+    ensures { λ r. ⌜ r ≡ readsInUse count ⌝ }
 {
     at_most(count, limits::LINES)
 }
@@ -37,7 +36,7 @@ pub fn verdict_on(
     line: u32,
     row: Row,
 ) -> Verdict
-    ensures { λ r. ⌜ ((t : Table) → r ≡ verdictOn (rowsOf (withVersions t (now (ends .entry)) (now (words .entry))) (table.used rows)) (chain (seensOf (reads (now (keys .entry)) (now (lines .entry)) (now (befores .entry))) (used count)) (row .last)) line row) ⌝ }
+    ensures { λ r. ⌜ ((t : Table) → r ≡ verdictOn (rowsOf (withVersions t (now (ends .entry)) (now (words .entry))) (rowsInUse rows)) (chain (seensOf (reads (now (keys .entry)) (now (lines .entry)) (now (befores .entry))) (readsInUse count)) (row .last)) line row) ⌝ }
 {
     let y = latest(lines, befores, count, row.last);
     let rank = first_broken(ends, words, rows, keys, lines, befores, count, row, y);
@@ -73,7 +72,7 @@ fn latest(
     count: usize,
     last: u32,
 ) -> u32
-    ensures { λ r. ⌜ ((keys : List ℕ) → r ≡ latestOf (chain (seensOf (reads keys (now (lines .entry)) (now (befores .entry))) (used count)) last)) ⌝ }
+    ensures { λ r. ⌜ ((keys : List ℕ) → r ≡ latestOf (chain (seensOf (reads keys (now (lines .entry)) (now (befores .entry))) (readsInUse count)) last)) ⌝ }
 {
     let mut at = earlier(last, in_use(count));
     let mut most: u32 = 0;
@@ -103,7 +102,7 @@ fn first_broken(
     row: Row,
     y: u32,
 ) -> u8
-    ensures { λ r. ⌜ ((t : Table) → r ≡ leastOf (rules (rowsOf (withVersions t (now (ends .entry)) (now (words .entry))) (table.used rows)) row y) (chain (seensOf (reads (now (keys .entry)) (now (lines .entry)) (now (befores .entry))) (used count)) (row .last))) ⌝ }
+    ensures { λ r. ⌜ ((t : Table) → r ≡ leastOf (rules (rowsOf (withVersions t (now (ends .entry)) (now (words .entry))) (rowsInUse rows)) row y) (chain (seensOf (reads (now (keys .entry)) (now (lines .entry)) (now (befores .entry))) (readsInUse count)) (row .last))) ⌝ }
 {
     let mut at = earlier(row.last, in_use(count));
     let mut rank: u8 = 4;
@@ -130,7 +129,7 @@ fn rank_of(
     key: u8,
     line: u32,
 ) -> u8
-    ensures { λ r. ⌜ ((t : Table) (b : ℕ) → r ≡ rankOf (rules (rowsOf (withVersions t (now (ends .entry)) (now (words .entry))) (table.used rows)) row y) (record { key = key; line = line; before = b })) ⌝ }
+    ensures { λ r. ⌜ ((t : Table) (b : ℕ) → r ≡ rankOf (rules (rowsOf (withVersions t (now (ends .entry)) (now (words .entry))) (rowsInUse rows)) row y) (record { key = key; line = line; before = b })) ⌝ }
 {
     if line == NOWHERE {
         return 0;
@@ -156,7 +155,7 @@ fn distance_rank(
     key: u8,
     line: u32,
 ) -> u8
-    ensures { λ r. ⌜ ((t : Table) (b : ℕ) → r ≡ farOf (rowsOf (withVersions t (now (ends .entry)) (now (words .entry))) (table.used rows)) row (record { key = key; line = line; before = b })) ⌝ }
+    ensures { λ r. ⌜ ((t : Table) (b : ℕ) → r ≡ farOf (rowsOf (withVersions t (now (ends .entry)) (now (words .entry))) (rowsInUse rows)) row (record { key = key; line = line; before = b })) ⌝ }
 {
     let b = row.bounds;
     if line <= row.start {

@@ -8,7 +8,6 @@ use lib.Dec.{leb}
 use lib.ListN.{length}
 use Rattle.units.specs.Refusal.{numberOf}
 use Rattle.units.specs.declared.refusal.Refusal.{Refusal}
-use Rattle.units.specs.declared.refusal.Refusal.the-variants.{NoRoom}
 use Rattle.records.specs.declared.Judged.{Judged}
 use Rattle.records.specs.declared.Totals.{Totals}
 use Rattle.records.specs.Ledger.{blank}
@@ -16,9 +15,8 @@ use Rattle.records.specs.Totals.{noTotals}
 use Rattle.ledger.specs.declared.Counts.{Counts}
 use Rattle.ledger.specs.Books.{verdicts, judgedOf}
 use Rattle.report.specs.declared.Written.{Written}
-use Rattle.report.specs.declared.Written as written
 use Rattle.report.specs.Report.{judgedList, reportText}
-use Rattle.report.specs.Write.{writtenAs}
+use Rattle.report.specs.Write.{WriteReply, wroteBytes, refusedWith, writtenReply, writtenAs}
 use Rattle.report.proofs.Lines.{judged-reverse}
 use Rattle.verdict.specs.declared.Ran.{Ran}
 use Rattle.verdict.specs.declared.Ran.the-variants.{Done, Refused}
@@ -27,20 +25,21 @@ use Rattle.verdict.specs.Reply.{Reply, bytes, refusedAt, replied, roomAf
 
 -- ---- the report written, or without room
 
-abbrev heard : Written → Reply
-heard (written.the-variants.Bytes n) = bytes n
-heard (written.the-variants.Refused f) = refusedAt (numberOf f) 0
+abbrev heard : WriteReply → Reply
+heard (wroteBytes n) = bytes n
+heard (refusedWith number) = refusedAt number 0
 
 heard-text : (js : List Judged) (t : Totals) (room : List ℕ) → heard (writtenAs room (reportText js t)) ≡ replied (judged js t) room
 unfolding writtenAs
 heard-text js t room = go (leb (length (reportText js t)) (length room)) (length (reportText js t))
   where
-    go : (b : Bool) (n : ℕ) → heard (cond b (written.the-variants.Bytes n) (written.the-variants.Refused NoRoom)) ≡ cond b (bytes n) (refusedAt 17 0)
+    go : (b : Bool) (n : ℕ) → heard (cond b (wroteBytes n) (refusedWith 17)) ≡ cond b (bytes n) (refusedAt 17 0)
     go true n = refl
     go false n = refl
 
-pub finished : (js : List Judged) (t : Totals) (room : List ℕ) {w x : Written} → w ≡ writtenAs room (reportText js t) → w ≡ x → heard x ≡ replied (judged js t) room
-finished js t room p q = ap heard (sym q ∙ p) ∙ heard-text js t room
+pub finished : (js : List Judged) (t : Totals) (room : List ℕ) {w x : Written} → writtenReply w ≡ writtenAs room (reportText js t) → w ≡ x
+    → heard (writtenReply x) ≡ replied (judged js t) room
+finished js t room p q = ap heard (ap writtenReply (sym q) ∙ p) ∙ heard-text js t room
 
 -- ---- the verdicts in order of commit lines, from the columns
 

@@ -12,30 +12,28 @@ use Rattle.decimal.specs.Read.{more, digits, unsigned, negative, fieldAt, asNat
 use Rattle.decimal.proofs.Writing.{put-room, put-full}
 use Rattle.records.specs.declared.Judged.{Judged}
 use Rattle.records.specs.declared.Totals.{Totals}
-use Rattle.records.specs.Ledger.{rowOf, become, rowsUpTo, rowsBetween, resolved, chain, verdictOn, changed, noted, concluded, step}
+use Rattle.records.specs.Ledger.{rowOf, become, rowsUpTo, rowsBetween, resolved, chain, verdictOn, changed, noted, concluded, lineStep}
 use Rattle.records.specs.Totals.{noTotals}
-use Rattle.records.specs.Example.{judgedTwo, totalTwo}
-use Rattle.records.specs.Example as records
-use Rattle.history.specs.Text.{textOf}
-use Rattle.history.specs.Records.{texts}
+use Rattle.records.specs.Example.{p10Lines, p10Judged, p10Totals}
+use Rattle.history.specs.Text.{textOf, texts}
 use Rattle.history.specs.Line.{ended, tuneAt, readAt, writeAt, behindName, lineAt}
-use Rattle.report.specs.Report.{lineOf, verdictWord, headLine, verdictLine, verdictLines, totalLine, reportText}
+use Rattle.report.specs.Report.{spacedLine, verdictWord, headLine, verdictLine, totalLine, reportText}
 use Rattle.verdict.specs.Judge.{judged, refused, lines, reportOf}
 use Rattle.verdict.specs.Reply.{bytes, refusedAt, replied, roomAfter}
 use Rattle.verdict.specs.Example.{Prints, history, output, emptyOutput}
 
 -- the bytes are the text of P10's records
-pub history-text : texts records.lines ≡ history
+pub history-text : texts p10Lines ≡ history
 unfolding joined textOf decimal spelt
 history-text = refl
 
 -- what is said of document 01's history and of the empty one; then `c 2` unended, and `c 1` of one not started
 pub examples :
-    (reportOf history ≡ judged judgedTwo totalTwo)
+    (reportOf history ≡ judged p10Judged p10Totals)
     × (reportOf [] ≡ judged [] noTotals)
     × (reportOf (115 ∷ 9 ∷ 50 ∷ 10 ∷ 99 ∷ 9 ∷ 50 ∷ []) ≡ refused 13 2)
     × (reportOf (115 ∷ 9 ∷ 50 ∷ 10 ∷ 99 ∷ 9 ∷ 49 ∷ 10 ∷ []) ≡ refused 15 2)
-unfolding reportOf lines lineAt behindName tuneAt readAt writeAt ended onNumber naturalBehindTab naturalAt asNatural fieldAt digits more unsigned negative isDigit any count rowOf become rowsUpTo rowsBetween resolved chain verdictOn changed noted concluded step
+unfolding reportOf lines lineAt behindName tuneAt readAt writeAt ended onNumber naturalBehindTab naturalAt asNatural fieldAt digits more unsigned negative isDigit any count rowOf become rowsUpTo rowsBetween resolved chain verdictOn changed noted concluded lineStep
 examples = (refl, refl, refl, refl)
 
 -- a text that is judged prints its report
@@ -53,12 +51,12 @@ module _ (js : List Judged) (t : Totals) (room : List ℕ) where
 pub prints : (s : List ℕ) (js : List Judged) (t : Totals) → reportOf s ≡ judged js t → Prints s (reportText js t)
 prints s js t e = record { whole = λ room h. rw e (fits js t room h); short = λ room h. rw e (lacks js t room h) }
 
-output-text : reportText judgedTwo totalTwo ≡ output
-unfolding reportText headLine joined verdictLine totalLine lineOf verdictWord decimal spelt
+output-text : reportText p10Judged p10Totals ≡ output
+unfolding reportText headLine joined verdictLine totalLine spacedLine verdictWord decimal spelt
 output-text = refl
 
 empty-text : reportText [] noTotals ≡ emptyOutput
-unfolding reportText headLine joined totalLine lineOf decimal spelt
+unfolding reportText headLine joined totalLine spacedLine decimal spelt
 empty-text = refl
 
 -- P10 and empty input

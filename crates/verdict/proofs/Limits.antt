@@ -2,26 +2,25 @@
 use Prim.Native.Nat.{ℕ, suc, _≤_, _<_}
 use native.Mathlib.Omega.{arith}
 use mathlib.Core.Path.{_≡_, refl, _∙_}
-use mathlib.Core.Bool.{Bool, true, false, cond}
-use mathlib.Core.List.{List, _∷_}
+use mathlib.Core.Bool.{Bool, true, false, cond, _&&_}
+use mathlib.Core.List.{List, _∷_, reverse}
 use borrow.Author.Tests.{leb-false, ltb-true}
 use lib.Dec.{leb}
-use lib.ListN.{length}
+use lib.ListN.{length, length-reverse}
 use Rattle.lists.specs.Lists.{any, count}
 use Rattle.lists.proofs.Count.{any-count}
+use Rattle.records.specs.Parts.{partsOf, nameOf, starts, isReading}
 use Rattle.records.specs.declared.Record.{Record}
-use Rattle.records.specs.declared.Record.the-variants.{Start, Tune, Read, Write, Commit, Abort}
 use Rattle.records.specs.declared.Row.{Row}
 use Rattle.records.specs.declared.Seen.{Seen}
 use Rattle.records.specs.Written.{History}
-use Rattle.records.specs.Ledger.{Ledger, refused, went, nameOf, named, rowOf, isOpen, isRecorded, changed, noted, step}
-use Rattle.records.specs.Tally.{totalsOf, Counts}
+use Rattle.records.specs.Ledger.{Ledger, refused, went, named, rowOf, isOpen, isRecorded, changed, noted, lineStep}
 use Rattle.records.specs.Judge.{Taken, nothing, line, Right}
 use Rattle.records.proofs.Rows.{open-there, any-row, become-length}
 use Rattle.records.proofs.Runs.{Ran, bare, began, moved, movedAt, begunAt, ran}
 use Rattle.records.proofs.Refused.{rows-counted}
 use Rattle.records.proofs.Verdicts.{judge-right}
-use Rattle.records.proofs.Tallies.{totals-right}
+use Rattle.records.proofs.Tallies.{open-rows}
 
 -- ---- "512 transactions": a start past them is refused
 
@@ -34,21 +33,19 @@ moves n e l m h q =
     stays (isOpen (rowOf (l .rows) (nameOf e))) 15 (movedAt n e l) m
     (rw (become-length (l .rows) (nameOf e) (changed n (length (l .seens)) e (rowOf (l .rows) (nameOf e)))) h) q
 
-rows-step : (n : ℕ) (e : Record) (l m : Ledger) → length (l .rows) ≤ 512 → step n e l ≡ went m → length (m .rows) ≤ 512
-unfolding step
-rows-step n (Start t) l m h q = go (any (named t) (l .rows)) (leb 512 (length (l .rows))) refl q
+rows-step : (n : ℕ) (e : Record) (l m : Ledger) → length (l .rows) ≤ 512 → lineStep n e l ≡ went m → length (m .rows) ≤ 512
+unfolding lineStep
+rows-step n e l m h q = go (starts e) (any (named (nameOf e)) (l .rows)) (leb 512 (length (l .rows))) refl q
   where
-    go : (a b : Bool) → leb 512 (length (l .rows)) ≡ b → cond a (refused 15) (cond b (refused 16) (went (begunAt n t l))) ≡ went m → length (m .rows) ≤ 512
-    go true b p q = let z : _≡_ {A = ℕ} 0 1 = cc in absurd (omega arith)
-    go false true p q = let z : _≡_ {A = ℕ} 0 1 = cc in absurd (omega arith)
-    go false false p q =
-        let e : begunAt n t l ≡ m = cc in
+    go : (s a b : Bool) → leb 512 (length (l .rows)) ≡ b
+        → cond s (cond a (refused 15) (cond b (refused 16) (went (begunAt n (nameOf e) l)))) (cond (isOpen (rowOf (l .rows) (nameOf e))) (went (movedAt n e l)) (refused 15)) ≡ went m
+        → length (m .rows) ≤ 512
+    go true true b p q = let z : _≡_ {A = ℕ} 0 1 = cc in absurd (omega arith)
+    go true false true p q = let z : _≡_ {A = ℕ} 0 1 = cc in absurd (omega arith)
+    go true false false p q =
+        let e : begunAt n (nameOf e) l ≡ m = cc in
         rw (← e) (omega (arith, leb-false 512 (length (l .rows)) p))
-rows-step n (Tune t b) l m h q = moves n (Tune t b) l m h q
-rows-step n (Read t x w) l m h q = moves n (Read t x w) l m h q
-rows-step n (Write t x) l m h q = moves n (Write t x) l m h q
-rows-step n (Commit t) l m h q = moves n (Commit t) l m h q
-rows-step n (Abort t) l m h q = moves n (Abort t) l m h q
+    go false a b p q = moves n e l m h q
 
 pub rows-most : {h : History} {l : Ledger} → Taken h l → length (l .rows) ≤ 512
 rows-most nothing = omega arith
@@ -58,16 +55,11 @@ rows-most (line {h} {r = e} {l = l} {l′ = m} t q) = rows-step (suc (length h))
 
 noted-most : (rows : List Row) (e : Record) (r : Row) (ss : List Seen) → length (noted rows e r ss) ≤ suc (length ss)
 unfolding noted
-noted-most rows (Start t) r ss = omega arith
-noted-most rows (Tune t b) r ss = omega arith
-noted-most rows (Read t x w) r ss = go (isRecorded r x w) _
+noted-most rows e r ss = go (isReading e && isRecorded r (partsOf e .key) (partsOf e .source)) _
   where
     go : (b : Bool) (s : Seen) → length (cond b (s ∷ ss) ss) ≤ suc (length ss)
     go true s = omega arith
     go false s = omega arith
-noted-most rows (Write t x) r ss = omega arith
-noted-most rows (Commit t) r ss = omega arith
-noted-most rows (Abort t) r ss = omega arith
 
 seens-ran : {h : History} {l : Ledger} → Ran h l → length (l .seens) ≤ length h
 seens-ran bare = omega arith
@@ -84,6 +76,5 @@ open-some rs t o = ltb-true 0 (count isOpen rs) (any-count isOpen rs (count isOp
 
 pub judged-room : {h : History} {l : Ledger} → Taken h l → length h ≤ 4096 → (t : ℕ) → isOpen (rowOf (l .rows) t) ≡ true → length (l .judged) < 512
 judged-room {h} {l} taken few t o =
-    let r : Right h l = judge-right taken few in
-    let n : Counts h l (totalsOf h) = totals-right taken few in
-    omega (arith, r .number, n .«open», n .rest, open-some (l .rows) t o, rows-counted (ran taken), rows-most taken)
+    let r : Right h (reverse (l .judged)) = judge-right taken few in
+    omega (arith, r .number, length-reverse (l .judged), open-rows (ran taken), open-some (l .rows) t o, rows-counted (ran taken), rows-most taken)

@@ -6,52 +6,26 @@ use mathlib.Core.Logic.{_↔_, _⊎_, inl, inr}
 use mathlib.Core.Bool.{Bool, true, false, cond}
 use mathlib.Core.List.{List, reverse, reverse-reverse}
 use borrow.Author.Tests.{ltb-true, ltb-false, lt-ltb, le-ltb}
-use lib.Dec.{leb, ltb}
+use lib.Dec.{ltb}
 use lib.ListN.{length, length-reverse}
 use Rattle.lists.specs.Lists.{any, count}
+use Rattle.records.specs.Parts.{isStart, starts}
 use Rattle.records.specs.declared.Record.{Record}
 use Rattle.records.specs.declared.Record.the-variants.{Start, Tune, Read, Write, Commit, Abort}
-use Rattle.records.specs.Written.{History, isStart}
-use Rattle.records.specs.Ledger.{Ledger, Outcome, went, blank, named, rowOf, isOpen, step}
+use Rattle.records.specs.Written.{History}
+use Rattle.records.specs.Ledger.{Ledger, Outcome, went, blank, lineStep}
 use Rattle.records.specs.Ledger as meaning
 use Rattle.records.specs.Totals.{noTotals}
-use Rattle.records.specs.Tally.{starts}
-use Rattle.records.specs.Mirror.{refusalIn, numberOf}
+use Rattle.records.specs.Mirror.{outcomeNumber}
+use Rattle.records.specs.Refused.{refusalIn}
 use Rattle.records.proofs.Refused as records
-use Rattle.records.proofs.Runs.{begunAt, movedAt}
 use Rattle.history.specs.Text.{Written}
 use Rattle.history.proofs.Reading.{bad-exactly}
 use Rattle.verdict.specs.Judge.{Report, refused, lines, reportOf}
 use Rattle.verdict.specs.Refused.{Front, Refuses, long, many, formless, misplaced, full}
-use Rattle.verdict.proofs.Ends.{passed-taken, passed-front, front-passed, Ends, done, over, unread, stopped, ends, at-over, at-unread, at-stopped}
+use Rattle.verdict.proofs.Ends.{passed-taken, passed-front, front-taken, front-passed, Ends, done, over, unread, stopped, ends, at-over, at-unread, at-stopped}
 
--- ---- a record is refused with 15 or 16
-
-same-number : {j k : ℕ} → meaning.refused j ≡ meaning.refused k → k ≡ j
-same-number q = cc
-
-not-refused : {A : Type 0} {l : Ledger} {k : ℕ} → went l ≡ meaning.refused k → A
-not-refused q = let z : _≡_ {A = ℕ} 0 1 = cc in absurd (omega arith)
-
-stays : (b : Bool) (m : Ledger) {k : ℕ} → cond b (went m) (meaning.refused 15) ≡ meaning.refused k → k ≡ 15
-stays true m q = not-refused q
-stays false m q = same-number q
-
-numbers : (n : ℕ) (e : Record) (l : Ledger) {k : ℕ} → step n e l ≡ meaning.refused k → (k ≡ 15) ⊎ (k ≡ 16)
-unfolding step
-numbers n (Start t) l {k} q = go (any (named t) (l .rows)) (leb 512 (length (l .rows))) q
-  where
-    go : (a b : Bool) → cond a (meaning.refused 15) (cond b (meaning.refused 16) (went (begunAt n t l))) ≡ meaning.refused k → (k ≡ 15) ⊎ (k ≡ 16)
-    go true b q = inl (same-number q)
-    go false true q = inr (same-number q)
-    go false false q = not-refused q
-numbers n (Tune t b) l q = inl (stays (isOpen (rowOf (l .rows) t)) (movedAt n (Tune t b) l) q)
-numbers n (Read t x w) l q = inl (stays (isOpen (rowOf (l .rows) t)) (movedAt n (Read t x w) l) q)
-numbers n (Write t x) l q = inl (stays (isOpen (rowOf (l .rows) t)) (movedAt n (Write t x) l) q)
-numbers n (Commit t) l q = inl (stays (isOpen (rowOf (l .rows) t)) (movedAt n (Commit t) l) q)
-numbers n (Abort t) l q = inl (stays (isOpen (rowOf (l .rows) t)) (movedAt n (Abort t) l) q)
-
-refuses-with : (o : Outcome) {k : ℕ} → 1 ≤ k → numberOf o ≡ k → o ≡ meaning.refused k
+refuses-with : (o : Outcome) {k : ℕ} → 1 ≤ k → outcomeNumber o ≡ k → o ≡ meaning.refused k
 refuses-with (meaning.refused n) some q = ap (λ (k : ℕ). meaning.refused k) q
 refuses-with (went l) some q = absurd (omega arith)
 
@@ -67,11 +41,11 @@ module _ (s : List ℕ) where
 
     in-table : {r : Report} → length s ≤ 65536 → Ends s r → r ≡ refused n l → Refuses s n l
     in-table short (done p few end) q = let z : _≡_ {A = ℕ} 0 1 = cc in absurd (omega arith)
-    in-table short (over {h} p e more) q = row (many short (passed-front s p) (length-reverse h ∙ e) more) (omega arith) q
+    in-table short (over {h} p e more) q = row (many short (passed-front s p (omega arith)) (length-reverse h ∙ e) more) (omega arith) q
     in-table short (unread {h} {at} p few bad) q =
         let b : (at < length s) × ((e : Record) (next : ℕ) → ¬ Written s at e next) = bad-exactly s at .0 bad in
-        row (formless short (passed-front s p) (omega (arith, length-reverse h)) (b .0) (b .1)) (omega (arith, length-reverse h)) q
-    in-table short (stopped {h} {at} {next} {e} {l = m} {n = k} p few w z) q = go (numbers (suc (length h)) e m z)
+        row (formless short (passed-front s p (omega arith)) (omega (arith, length-reverse h)) (b .0) (b .1)) (omega (arith, length-reverse h)) q
+    in-table short (stopped {h} {at} {next} {e} {l = m} {n = k} p few w z) q = go (records.step-numbers (suc (length h)) e m z)
       where
         lines-before : length (reverse h) < 4096
         lines-before = omega (arith, length-reverse h)
@@ -80,11 +54,11 @@ module _ (s : List ℕ) where
         same-line = omega (arith, length-reverse h)
 
         says : refusalIn (reverse (reverse h)) e ≡ k
-        says = ap (λ (x : History). refusalIn x e) (reverse-reverse h) ∙ sym (records.refused-exactly (passed-taken s p) (omega arith) e) ∙ ap numberOf z
+        says = ap (λ (x : History). refusalIn x e) (reverse-reverse h) ∙ sym (records.refused-exactly (passed-taken s p) (omega arith) e) ∙ ap outcomeNumber z
 
         go : (k ≡ 15) ⊎ (k ≡ 16) → Refuses s n l
-        go (inl i) = row (misplaced short (passed-front s p) lines-before w (says ∙ i)) same-line (ap (λ (x : ℕ). refused x (suc (length h))) (sym i) ∙ q)
-        go (inr i) = row (full short (passed-front s p) lines-before w (says ∙ i)) same-line (ap (λ (x : ℕ). refused x (suc (length h))) (sym i) ∙ q)
+        go (inl i) = row (misplaced short (passed-front s p (omega arith)) lines-before w (says ∙ i)) same-line (ap (λ (x : ℕ). refused x (suc (length h))) (sym i) ∙ q)
+        go (inr i) = row (full short (passed-front s p (omega arith)) lines-before w (says ∙ i)) same-line (ap (λ (x : ℕ). refused x (suc (length h))) (sym i) ∙ q)
 
   refused-only : {n l : ℕ} → reportOf s ≡ refused n l → Refuses s n l
   unfolding reportOf
@@ -104,16 +78,18 @@ module _ (s : List ℕ) where
     stops : {n : ℕ} → 1 ≤ n → refusalIn (reverse rs) e ≡ n → reportOf s ≡ refused n (suc (length rs))
     stops some q =
         let k : length (reverse rs) < 4096 = omega (arith, length-reverse rs) in
+        let t = front-taken s f (omega arith) in
         report short
-        (at-stopped s (front-passed s f) k w (refuses-with (step (suc (length (reverse rs))) e (f .ledger)) some (records.refused-exactly (f .taken) (omega arith) e ∙ q)))
+        (at-stopped s (front-passed s f (omega arith)) k w
+        (refuses-with (lineStep (suc (length (reverse rs))) e (t .0)) some (records.refused-exactly (t .1) (omega arith) e ∙ q)))
         (omega (arith, length-reverse rs))
 
   refused-there : {n l : ℕ} → Refuses s n l → reportOf s ≡ refused n l
   unfolding reportOf
   refused-there (long h) = rw (lt-ltb 65536 (length s) h)
-  refused-there (many {rs} short f e more) = report short (at-over s (front-passed s f) (length-reverse rs ∙ e) more) (omega (arith, length-reverse rs))
+  refused-there (many {rs} short f e more) = report short (at-over s (front-passed s f (omega arith)) (length-reverse rs ∙ e) more) (omega (arith, length-reverse rs))
   refused-there (formless {rs} {at} short f few more bad) =
-      report short (at-unread s (front-passed s f) (omega (arith, length-reverse rs)) (bad-exactly s at .1 (more, bad))) (omega (arith, length-reverse rs))
+      report short (at-unread s (front-passed s f (omega arith)) (omega (arith, length-reverse rs)) (bad-exactly s at .1 (more, bad))) (omega (arith, length-reverse rs))
   refused-there (misplaced short f few w q) = stops short f few w (omega arith) q
   refused-there (full short f few w q) = stops short f few w (omega arith) q
 

@@ -1,7 +1,7 @@
 -- What the judge says of a text is right over the whole history that the text is.
 use Prim.Native.Nat.{ℕ, _≤_}
 use native.Mathlib.Omega.{arith}
-use mathlib.Core.Path.{_≡_, refl, ap, _∙_, subst}
+use mathlib.Core.Path.{_≡_, ap, _∙_, subst}
 use mathlib.Core.Bool.{Bool, true, false, cond}
 use mathlib.Core.List.{List, _++_, reverse, reverse-reverse, append-nil}
 use lib.Dec.{ltb}
@@ -14,7 +14,7 @@ use Rattle.records.specs.Totals.{noTotals}
 use Rattle.records.specs.Tally.{totalsOf, Counts}
 use Rattle.records.proofs.Verdicts.{judge-right}
 use Rattle.records.proofs.Tallies.{totals-right}
-use Rattle.history.specs.Records.{texts}
+use Rattle.history.specs.Text.{texts}
 use Rattle.verdict.specs.Judge.{Report, refused, judged, lines, reportOf}
 use Rattle.verdict.specs.Whole.{Whole}
 use Rattle.verdict.specs.Refused.{Front}
@@ -27,18 +27,16 @@ module _ (s : List ℕ) where
   -- nothing is left behind the lines
   whole : {h : History} {at : ℕ} {l : Ledger} → Passed s h at l → length h ≤ 4096 → length s ≤ at → Whole s (reverse (l .judged)) (totalsOf h)
   whole {h} {at} {l} p most end =
-      let f : Front s (reverse h) at = passed-front s p in
+      let f : Front s (reverse h) at = passed-front s p most in
       let few : length (reverse (reverse h)) ≤ 4096 = omega (arith, length-reverse h, length-reverse (reverse h)) in
       record {
         records = reverse h;
         text = f .stands .here ∙ ap (λ (x : List ℕ). texts (reverse h) ++ x) (drop-of-length-le s end) ∙ append-nil (texts (reverse h));
         form = f .form;
         few = omega (arith, length-reverse h);
-        ledger = l;
-        taken = passed-back s p;
-        verdicts = refl;
+        unrefused = f .unrefused;
         right = judge-right (passed-back s p) few;
-        totals = subst (λ (x : Totals). Counts (reverse (reverse h)) l x) (ap totalsOf (reverse-reverse h)) (totals-right (passed-back s p) few);
+        totals = subst (Counts (reverse (reverse h))) (ap totalsOf (reverse-reverse h)) (totals-right (passed-back s p) few);
       }
 
   module _ {js : List Judged} {t : Totals} where

@@ -7,25 +7,24 @@ use lib.Dec.{leb}
 use lib.ListN.{length}
 use Rattle.units.specs.Refusal.{numberOf}
 use Rattle.units.specs.declared.refusal.Refusal.{Refusal}
-use Rattle.units.specs.declared.refusal.Refusal.the-variants.{NoRoom}
 use Rattle.report.specs.declared.Written.{Written}
-use Rattle.report.specs.declared.Written as written
 use Rattle.report.specs.Report.{refusedText}
-use Rattle.report.specs.Write.{writtenAs}
+use Rattle.report.specs.Write.{WriteReply, wroteBytes, refusedWith, writtenReply, writtenAs}
 use Rattle.verdict.specs.declared.Answer.{Answer}
 use Rattle.verdict.specs.declared.Answer as answer
-use Rattle.verdict.specs.Reply.{Reply, refusedAt, replyOf}
+use Rattle.verdict.specs.Reply.{refusedAt, replyOf}
 use Rattle.verdict.specs.Show.{shownBytes, shownRoom}
 
-abbrev count : Written → ℕ
-count (written.the-variants.Bytes n) = n
-count (written.the-variants.Refused f) = 0
+abbrev count : WriteReply → ℕ
+count (wroteBytes n) = n
+count (refusedWith number) = 0
 
-pub counted : (number line : ℕ) (room : List ℕ) {w x : Written} → w ≡ writtenAs room (refusedText number line) → w ≡ x → count x ≡ shownBytes (refusedAt number line) room
+pub counted : (number line : ℕ) (room : List ℕ) {w x : Written} → writtenReply w ≡ writtenAs room (refusedText number line) → w ≡ x
+    → count (writtenReply x) ≡ shownBytes (refusedAt number line) room
 unfolding writtenAs
-counted number line room p q = ap count (sym q ∙ p) ∙ go (leb (length (refusedText number line)) (length room)) (length (refusedText number line))
+counted number line room p q = ap count (ap writtenReply (sym q) ∙ p) ∙ go (leb (length (refusedText number line)) (length room)) (length (refusedText number line))
   where
-    go : (b : Bool) (n : ℕ) → count (cond b (written.the-variants.Bytes n) (written.the-variants.Refused NoRoom)) ≡ cond b n 0
+    go : (b : Bool) (n : ℕ) → count (cond b (wroteBytes n) (refusedWith 17)) ≡ cond b n 0
     go true n = refl
     go false n = refl
 

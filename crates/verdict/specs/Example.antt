@@ -3,7 +3,7 @@ use Prim.Native.Nat.{ℕ, _≤_, _<_}
 use mathlib.Core.List.{List, [], _∷_, _++_}
 use mathlib.Core.Path.{_≡_}
 use lib.ListN.{length, drop}
-use Rattle.report.specs.Report.{judge, total}
+use Rattle.report.specs.Report.{judgeWord, totalWord}
 use Rattle.verdict.specs.Judge.{reportOf}
 use Rattle.verdict.specs.Reply.{bytes, refusedAt, replied, roomAfter}
 
@@ -22,8 +22,8 @@ history =
 -- "Whole output: `judge 2`, `1 ok`, `2 FV`, `total 2 2 0 0`": 32 is the space, 48 the digit 0
 abbrev pub output : List ℕ
 output =
-    judge ++ (32 ∷ 50 ∷ 10 ∷ 49 ∷ 32 ∷ 111 ∷ 107 ∷ 10 ∷ 50 ∷ 32 ∷ 70 ∷ 86 ∷ 10 ∷ []) ++ total ++ (32 ∷ 50 ∷ 32 ∷ 50 ∷ 32 ∷ 48 ∷ 32 ∷ 48 ∷ 10 ∷ [])
+    judgeWord ++ (32 ∷ 50 ∷ 10 ∷ 49 ∷ 32 ∷ 111 ∷ 107 ∷ 10 ∷ 50 ∷ 32 ∷ 70 ∷ 86 ∷ 10 ∷ []) ++ totalWord ++ (32 ∷ 50 ∷ 32 ∷ 50 ∷ 32 ∷ 48 ∷ 32 ∷ 48 ∷ 10 ∷ [])
 
 -- "Empty input: `judge 0`, `total 0 0 0 0`"
 abbrev pub emptyOutput : List ℕ
-emptyOutput = judge ++ (32 ∷ 48 ∷ 10 ∷ []) ++ total ++ (32 ∷ 48 ∷ 32 ∷ 48 ∷ 32 ∷ 48 ∷ 32 ∷ 48 ∷ 10 ∷ [])
+emptyOutput = judgeWord ++ (32 ∷ 48 ∷ 10 ∷ []) ++ totalWord ++ (32 ∷ 48 ∷ 32 ∷ 48 ∷ 32 ∷ 48 ∷ 32 ∷ 48 ∷ 10 ∷ [])

@@ -4,7 +4,7 @@ use mathlib.Core.Bool.{cond}
 use mathlib.Core.List.{List, reverse}
 use lib.Dec.{leb, ltb}
 use lib.ListN.{length}
-use Rattle.records.specs.Ledger.{Ledger, Outcome, blank, step}
+use Rattle.records.specs.Ledger.{Ledger, Outcome, blank, lineStep}
 use Rattle.records.specs.Ledger as meaning
 use Rattle.records.specs.Totals.{noTotals, raised}
 use Rattle.records.specs.declared.Judged.{Judged}
@@ -30,14 +30,14 @@ abbrev pub onOutcome : Outcome → (Ledger → Report) → ℕ → Report
 onOutcome (meaning.refused n) go line = refused n line
 onOutcome (meaning.went l) go line = go l
 
-abbrev pub concluded : Ledger → Totals → Report
-concluded l t = judged (reverse (l .judged)) t
+abbrev pub reportOn : Ledger → Totals → Report
+reportOn l t = judged (reverse (l .judged)) t
 
 -- from a place on, where the next line has this number and `left` more are allowed; 14: "line 4,097 reached"
 unfoldable pub lines : ℕ → List ℕ → ℕ → ℕ → Ledger → Totals → Report
-lines zero s at line l t = cond (leb (length s) at) (concluded l t) (refused 14 line)
+lines zero s at line l t = cond (leb (length s) at) (reportOn l t) (refused 14 line)
 lines (suc left) s at line l t =
-    onLine (lineAt s at) (concluded l t) (λ e next. onOutcome (step line e l) (λ l′. lines left s next (line + 1) l′ (raised e t)) line) line
+    onLine (lineAt s at) (reportOn l t) (λ e next. onOutcome (lineStep line e l) (λ l′. lines left s next (line + 1) l′ (raised e t)) line) line
 
 -- 12: "history longer than 65,536 bytes"; its line is 0
 unfoldable pub reportOf : List ℕ → Report

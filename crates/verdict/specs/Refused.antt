@@ -7,18 +7,14 @@ use lib.ListN.{length}
 use Rattle.lists.specs.Lists.{Every}
 use Rattle.decimal.specs.Read.{Stands}
 use Rattle.records.specs.declared.Record.{Record}
-use Rattle.records.specs.Ledger.{Ledger}
-use Rattle.records.specs.Judge.{Taken}
-use Rattle.records.specs.Mirror.{refusalIn}
-use Rattle.history.specs.Text.{InForm, Written}
-use Rattle.history.specs.Records.{texts}
+use Rattle.records.specs.Refused.{refusalIn, Unrefused}
+use Rattle.history.specs.Text.{InForm, Written, texts}
 
--- the text begins with the texts of these records, up to a place; each is of the form, and none is refused
+-- the text begins with the texts of these records, up to a place; each is of the form, and none is refused: each is taken after those before it
 pub record Front (s : List ℕ) (rs : List Record) (at : ℕ) : Type 0 where
   pub stands : Stands (texts rs) s 0 at
   pub form : Every InForm rs
-  pub ledger : Ledger
-  pub taken : Taken (reverse rs) ledger
+  pub unrefused : Unrefused (reverse rs)
 
 -- the text s gets this number and this line
 pub data Refuses (s : List ℕ) : (number line : ℕ) → Type 0 where

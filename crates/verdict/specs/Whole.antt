@@ -7,11 +7,10 @@ use Rattle.lists.specs.Lists.{Every}
 use Rattle.records.specs.declared.Judged.{Judged}
 use Rattle.records.specs.declared.Record.{Record}
 use Rattle.records.specs.declared.Totals.{Totals}
-use Rattle.records.specs.Ledger.{Ledger}
-use Rattle.records.specs.Judge.{Taken, Right}
+use Rattle.records.specs.Judge.{Right}
+use Rattle.records.specs.Refused.{Unrefused}
 use Rattle.records.specs.Tally.{Counts}
-use Rattle.history.specs.Text.{InForm}
-use Rattle.history.specs.Records.{texts}
+use Rattle.history.specs.Text.{InForm, texts}
 
 -- the records in line order; a history has its newest line first
 pub record Whole (s : List ℕ) (js : List Judged) (t : Totals) : Type 0 where
@@ -19,8 +18,6 @@ pub record Whole (s : List ℕ) (js : List Judged) (t : Totals) : Type 0 where
   pub text : s ≡ texts records
   pub form : Every InForm records
   pub few : length records ≤ 4096
-  pub ledger : Ledger
-  pub taken : Taken (reverse records) ledger
-  pub verdicts : js ≡ reverse (ledger .judged)
-  pub right : Right (reverse records) ledger
-  pub totals : Counts (reverse records) ledger t
+  pub unrefused : Unrefused (reverse records)
+  pub right : Right (reverse records) js
+  pub totals : Counts (reverse records) t

@@ -4,13 +4,11 @@ use Prim.Native.Nat.{ℕ}
 use mathlib.Core.List.{List, [], _∷_}
 use mathlib.Core.Path.{_≡_}
 use lib.IntN.{ℤ, pos, negsuc}
-use Rattle.units.specs.declared.Version.{Version}
 use Rattle.units.specs.declared.rule.Rule.the-variants.{BV, FV, SV, WC}
 use Rattle.records.specs.declared.Record.{Record}
 use Rattle.records.specs.declared.Judged.{Judged}
 use Rattle.records.specs.declared.Totals.{Totals}
-use Rattle.records.specs.declared.Verdict.{Verdict}
-use Rattle.records.specs.Example.{Says}
+use Rattle.records.specs.Example.{JudgedAs, p10Lines, p10Judged, p10Totals}
 use Rattle.model.specs.State.{opened}
 use Rattle.model.specs.Call.{Call, Start, Read, Note, Write, Tune, Distance, Commit, Reply, started, version, done, apartBy, committed, aborted}
 use Rattle.model.specs.Session.{replies}
@@ -22,7 +20,7 @@ pub data Row : Type 0 where
 
 abbrev pub Holds : Row → Type 0
 Holds (session calls expected) = replies (opened 0) calls ≡ expected
-Holds (history records verdicts totals) = Says records verdicts totals
+Holds (history records verdicts totals) = JudgedAs records verdicts totals
 
 abbrev pub answered : ℕ → ℕ → ℤ → Reply
 answered ordinal stamp value = version (record { ordinal = record { 0 = ordinal }; stamp = record { 0 = stamp }; value = value })
@@ -68,7 +66,7 @@ table =
     (started 1 ∷ started 2 ∷ done ∷ done ∷ committed 3 ∷ done ∷ answered 0 0 (pos 0) ∷ answered 1 3 (pos 8) ∷ committed 4 ∷ [])
     -- P10. `s 1`, `s 2`, `w 1 5`, `c 1`, `r 2 5 1`, `c 2`: `judge 2`, `1 ok`, `2 FV`, `total 2 2 0 0`
     ∷ history
-    (Record.Start 1 ∷ Record.Start 2 ∷ Record.Write 1 5 ∷ Record.Commit 1 ∷ Record.Read 2 5 1 ∷ Record.Commit 2 ∷ [])
-    (record { name = 1; verdict = Verdict.Ok } ∷ record { name = 2; verdict = Verdict.FV } ∷ [])
-    (record { started = 2; committed = 2; aborted = 0; «open» = 0 })
+    p10Lines
+    p10Judged
+    p10Totals
     ∷ []

@@ -1,7 +1,8 @@
 -- `line_at` meets its contract.
 use native.Mathlib.Omega.{arith}
+use mathlib.Core.Path.{ap}
 use borrow.Author.Tests.{le-leb, lt-leb}
-use Rattle.history.specs.Line.{lineAt}
+use Rattle.history.specs.Line.{lineAt, lineReply, lineSaid}
 use Rattle.decimal.proofs.Tabs.{natural-small}
 use Rattle.history.proofs.Steps.{number-goes, number-stops}
 use borrow.Author.Needs.{needs}
@@ -9,8 +10,8 @@ use Rattle.history.proofs.line_at.Statement.{statement}
 use Rattle.history.proofs.line_at.Tie as tie
 
 returns : tie.Need-returns
-unfolding lineAt
-returns c = rw (le-leb _ _ (c .if1 .taken))
+unfolding lineAt lineSaid
+returns c = ap lineReply (rw (le-leb _ _ (c .if1 .taken)))
 
 shared-slice-read-letter : tie.Need-shared-slice-read-letter
 shared-slice-read-letter c = search needs
@@ -28,10 +29,10 @@ enum-told : tie.Need-enum-told
 enum-told c = search needs
 
 returns-2 : tie.Need-returns-2
-unfolding lineAt
+unfolding lineAt lineSaid
 returns-2 c =
     rw (lt-leb _ _ (c .before .before .before .before .if1 .left))
-    (number-stops _ _ _ _ (c .before .before .natural-behind-tab .ensures) _ (c .enum-told .given .1))
+    (ap lineReply (number-stops _ _ _ _ (c .before .before .natural-behind-tab .ensures) _ (c .enum-told .given .1)))
 
 cast-behind-name : tie.Need-cast-behind-name
 cast-behind-name c = record { fits = omega (arith, natural-small _ _ _ _ (c .before .before .before .natural-behind-tab .ensures) (c .before .t .given .1)) }
@@ -40,11 +41,11 @@ behind-name-requires : tie.Need-behind-name-requires
 behind-name-requires c κs = search needs
 
 returns-3 : tie.Need-returns-3
-unfolding lineAt
+unfolding lineAt lineSaid
 returns-3 c =
     let k = c .before in
     rw (lt-leb _ _ (k .before .before .before .before .before .if1 .left))
-    (number-goes _ _ _ _ (k .before .before .before .natural-behind-tab .ensures) _ (k .before .t .given .1) (c .behind-name .ensures))
+    (ap lineReply (number-goes _ _ _ _ (k .before .before .before .natural-behind-tab .ensures) _ (k .before .t .given .1) (c .behind-name .ensures)))
 
 pub line-at-spec : {M : Type 1} → statement M
 line-at-spec =

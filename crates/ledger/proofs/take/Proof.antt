@@ -2,9 +2,10 @@
 use denote.Ref.{now}
 use Rattle.rows.specs.Table.{table}
 use Rattle.trial.specs.Reads.{reads}
+use Rattle.ledger.specs.declared.Taken.the-variants.{Refused}
 use Rattle.ledger.specs.Books.{books, verdicts}
 use Rattle.ledger.proofs.Cases.{take-fails, take-passes}
-use Rattle.ledger.proofs.Meant.{meant, as-meant}
+use Rattle.ledger.proofs.Meant.{as-meant}
 use borrow.Author.Needs.{needs}
 use Rattle.ledger.proofs.take.Statement.{statement}
 use Rattle.ledger.proofs.take.Tie as tie
@@ -43,10 +44,10 @@ settle-requires : tie.Need-settle-requires
 settle-requires c κs = search needs
 
 returns : tie.Need-returns
-returns c = let a = c .before .before .before .before .before .before .before .before .before .before .before .before .before .before .before .before .before .before .before .before .before .before .before .before .before .before .before .before .before .before .before .before .before .args in as-meant (a .counts) (books (table (now (a .names)) (now (a .starts)) (now (a .ends)) (now (a .words)) (now (a .k1s)) (now (a .k2s)) (now (a .k3s)) (now (a .lasts))) (reads (now (a .seen-keys)) (now (a .seen-lines)) (now (a .seen-befores))) (verdicts (now (a .judged-names)) (now (a .judged-verdicts)))) (a .line) (a .e) (c .before .before .before .before .before .before .before .before .before .before .before .before .before .before .before .before .before .before .before .before .before .before .before .before .sized .ensures) (c .before .before .before .before .before .before .before .before .before .before .before .before .before .before .before .before .before .before .before .before .sized-reads .ensures) (c .before .before .before .before .before .before .before .before .before .before .before .before .before .before .before .before .before .sized-verdicts .ensures) _ _ (take-fails (a .counts) (books (table (now (a .names)) (now (a .starts)) (now (a .ends)) (now (a .words)) (now (a .k1s)) (now (a .k2s)) (now (a .k3s)) (now (a .lasts))) (reads (now (a .seen-keys)) (now (a .seen-lines)) (now (a .seen-befores))) (verdicts (now (a .judged-names)) (now (a .judged-verdicts)))) (a .line) (a .e) (c .before .before .before .before .before .before .before .before .before .before .before .before .before .before .before .name-of .ensures) (c .before .before .before .before .before .before .before .before .before .before .before .before .before .before .find .ensures (table (now (a .names)) (now (a .starts)) (now (a .ends)) (now (a .words)) (now (a .k1s)) (now (a .k2s)) (now (a .k3s)) (now (a .lasts)))) (c .before .before .before .before .before .load .ensures) (c .before .before .before .before .subject .ensures) (c .before .before .before .checked .ensures) (c .before .f .given .1))
+returns c = let a = c .before .before .before .before .before .before .before .before .before .before .before .before .before .before .before .before .before .before .before .before .before .before .before .before .before .before .before .before .before .before .before .before .before .args in as-meant (a .counts) (books (table (now (a .names)) (now (a .starts)) (now (a .ends)) (now (a .words)) (now (a .k1s)) (now (a .k2s)) (now (a .k3s)) (now (a .lasts))) (reads (now (a .seen-keys)) (now (a .seen-lines)) (now (a .seen-befores))) (verdicts (now (a .judged-names)) (now (a .judged-verdicts)))) (a .line) (a .e) (c .before .before .before .before .before .before .before .before .before .before .before .before .before .before .before .before .before .before .before .before .before .before .before .before .sized .ensures) (c .before .before .before .before .before .before .before .before .before .before .before .before .before .before .before .before .before .before .before .before .sized-reads .ensures) (c .before .before .before .before .before .before .before .before .before .before .before .before .before .before .before .before .before .sized-verdicts .ensures) (Refused (c .before .f .given .0 .0)) _ (take-fails (a .counts) (books (table (now (a .names)) (now (a .starts)) (now (a .ends)) (now (a .words)) (now (a .k1s)) (now (a .k2s)) (now (a .k3s)) (now (a .lasts))) (reads (now (a .seen-keys)) (now (a .seen-lines)) (now (a .seen-befores))) (verdicts (now (a .judged-names)) (now (a .judged-verdicts)))) (a .line) (a .e) (c .before .before .before .before .before .before .before .before .before .before .before .before .before .before .before .name-of .ensures) (c .before .before .before .before .before .before .before .before .before .before .before .before .before .before .find .ensures (table (now (a .names)) (now (a .starts)) (now (a .ends)) (now (a .words)) (now (a .k1s)) (now (a .k2s)) (now (a .k3s)) (now (a .lasts)))) (c .before .before .before .before .before .load .ensures) (c .before .before .before .before .subject .ensures) (c .before .before .before .checked .ensures) (c .before .f .given .1))
 
 returns-2 : tie.Need-returns-2
-returns-2 c = let a = c .before .before .before .before .before .before .before .before .before .before .before .before .before .before .before .before .before .before .before .before .before .before .before .before .before .before .before .before .before .before .before .before .before .before .before .before .before .before .before .before .before .before .before .before .before .before .args in as-meant (a .counts) (books (table (now (a .names)) (now (a .starts)) (now (a .ends)) (now (a .words)) (now (a .k1s)) (now (a .k2s)) (now (a .k3s)) (now (a .lasts))) (reads (now (a .seen-keys)) (now (a .seen-lines)) (now (a .seen-befores))) (verdicts (now (a .judged-names)) (now (a .judged-verdicts)))) (a .line) (a .e) (c .before .before .before .before .before .before .before .before .before .before .before .before .before .before .before .before .before .before .before .before .before .before .before .before .before .before .before .before .before .before .before .before .before .before .before .before .before .sized .ensures) (c .before .before .before .before .before .before .before .before .before .before .before .before .before .before .before .before .before .before .before .before .before .before .before .before .before .before .before .before .before .before .before .before .before .sized-reads .ensures) (c .before .before .before .before .before .before .before .before .before .before .before .before .before .before .before .before .before .before .before .before .before .before .before .before .before .before .before .before .before .before .sized-verdicts .ensures) _ _ (take-passes (a .counts) (books (table (now (a .names)) (now (a .starts)) (now (a .ends)) (now (a .words)) (now (a .k1s)) (now (a .k2s)) (now (a .k3s)) (now (a .lasts))) (reads (now (a .seen-keys)) (now (a .seen-lines)) (now (a .seen-befores))) (verdicts (now (a .judged-names)) (now (a .judged-verdicts)))) (a .line) (a .e) (c .before .before .before .before .before .before .before .before .before .before .before .before .before .before .before .before .before .before .before .before .before .before .before .before .before .before .before .before .name-of .ensures) (c .before .before .before .before .before .before .before .before .before .before .before .before .before .before .before .before .before .before .before .before .before .before .before .before .before .before .before .find .ensures (table (now (a .names)) (now (a .starts)) (now (a .ends)) (now (a .words)) (now (a .k1s)) (now (a .k2s)) (now (a .k3s)) (now (a .lasts)))) (c .before .before .before .before .before .before .before .before .before .before .before .before .before .before .before .before .before .before .load .ensures) (c .before .before .before .before .before .before .before .before .before .before .before .before .before .before .before .before .before .subject .ensures) (c .before .before .before .before .before .before .before .before .before .before .before .before .before .before .before .before .checked .ensures) (c .before .before .before .before .before .before .before .before .before .before .before .before .before .before .enum-told .given .1) _ (c .settle .ensures))
+returns-2 c = let a = c .before .before .before .before .before .before .before .before .before .before .before .before .before .before .before .before .before .before .before .before .before .before .before .before .before .before .before .before .before .before .before .before .before .before .before .before .before .before .before .before .before .before .before .before .before .before .args in as-meant (a .counts) (books (table (now (a .names)) (now (a .starts)) (now (a .ends)) (now (a .words)) (now (a .k1s)) (now (a .k2s)) (now (a .k3s)) (now (a .lasts))) (reads (now (a .seen-keys)) (now (a .seen-lines)) (now (a .seen-befores))) (verdicts (now (a .judged-names)) (now (a .judged-verdicts)))) (a .line) (a .e) (c .before .before .before .before .before .before .before .before .before .before .before .before .before .before .before .before .before .before .before .before .before .before .before .before .before .before .before .before .before .before .before .before .before .before .before .before .before .sized .ensures) (c .before .before .before .before .before .before .before .before .before .before .before .before .before .before .before .before .before .before .before .before .before .before .before .before .before .before .before .before .before .before .before .before .before .sized-reads .ensures) (c .before .before .before .before .before .before .before .before .before .before .before .before .before .before .before .before .before .before .before .before .before .before .before .before .before .before .before .before .before .before .sized-verdicts .ensures) (c .settle .result) _ (take-passes (a .counts) (books (table (now (a .names)) (now (a .starts)) (now (a .ends)) (now (a .words)) (now (a .k1s)) (now (a .k2s)) (now (a .k3s)) (now (a .lasts))) (reads (now (a .seen-keys)) (now (a .seen-lines)) (now (a .seen-befores))) (verdicts (now (a .judged-names)) (now (a .judged-verdicts)))) (a .line) (a .e) (c .before .before .before .before .before .before .before .before .before .before .before .before .before .before .before .before .before .before .before .before .before .before .before .before .before .before .before .before .name-of .ensures) (c .before .before .before .before .before .before .before .before .before .before .before .before .before .before .before .before .before .before .before .before .before .before .before .before .before .before .before .find .ensures (table (now (a .names)) (now (a .starts)) (now (a .ends)) (now (a .words)) (now (a .k1s)) (now (a .k2s)) (now (a .k3s)) (now (a .lasts)))) (c .before .before .before .before .before .before .before .before .before .before .before .before .before .before .before .before .before .before .load .ensures) (c .before .before .before .before .before .before .before .before .before .before .before .before .before .before .before .before .before .subject .ensures) (c .before .before .before .before .before .before .before .before .before .before .before .before .before .before .before .before .checked .ensures) (c .before .before .before .before .before .before .before .before .before .before .before .before .before .before .enum-told .given .1) _ (c .settle .ensures))
 
 pub take-spec : {M : Type 1} → statement M
 take-spec =

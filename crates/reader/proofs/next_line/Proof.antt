@@ -38,7 +38,7 @@ use denote.Triple.Table.{entered, cited}
 use denote.Triple.Walked.{says, Stays, stay-none, stay-none-slice, walkOf, goes-none, goes-none-slice, Walks, ends-at, walked, walk-meets}
 use denote.Exit.{yes}
 use denote.Triple.Clauses.{ensured, lasts}
-use Rattle.history.specs.Line.{lineAt}
+use Rattle.history.specs.Line.{LineReply, lineReply, lineSaid}
 use Rattle.history.specs.declared.Line.{Line}
 use Rattle.history.proofs.Line as L
 use Rattle.history.proofs.Line.Laws as L′
@@ -81,8 +81,8 @@ module _ {M : Type 1} (𝓤 : URA M) (H : Heap 𝓤) (A : Atoms 𝓤) (W : Given
   abbrev mach : Val
   mach = T′.lowered d
 
-  abbrev found : Line
-  found = lineAt (now s) n
+  abbrev found : LineReply
+  found = lineSaid (now s) n
 
   abbrev Post : Val → SProp 𝓤
   Post = walkOf 𝓤 H A f.ended stayed (f.clauses 𝓤 H A at-mem run) .post (((κ, tt), (q, tt), tt, (s, (n, tt)), vals), tt)
@@ -106,10 +106,10 @@ module _ {M : Type 1} (𝓤 : URA M) (H : Heap 𝓤) (A : Atoms 𝓤) (W : Given
       move ! (0 ∷ 2 ∷ []) $ use2 W (raw (ReadLine 𝓤 H A at-mem run .pre to-callee)) asked $ frame ! $ done !
 
   -- of the callee's `ensured`, the clause alone
-  told : (r : Line) → ent 𝓤 (ensured 𝓤 H A read-line.ended (read-line.clauses 𝓤 H A at-mem run) (κ, tt) (d, tt) tt r) (fact 𝓤 (r ≡ found))
-  told r = exE 𝓤 _ (λ ws. snd∗ 𝓤 (sem 𝓤 H A (lasts read-line.ended (κ, tt) (d, tt) ws)) (fact 𝓤 (r ≡ found)))
+  told : (r : Line) → ent 𝓤 (ensured 𝓤 H A read-line.ended (read-line.clauses 𝓤 H A at-mem run) (κ, tt) (d, tt) tt r) (fact 𝓤 (lineReply r ≡ found))
+  told r = exE 𝓤 _ (λ ws. snd∗ 𝓤 (sem 𝓤 H A (lasts read-line.ended (κ, tt) (d, tt) ws)) (fact 𝓤 (lineReply r ≡ found)))
 
-  exits : (r : Line) (u : Val) → r ≡ found → ent 𝓤 (⋆ 𝓤 H A (‵ (L.the-row .own r (u ∷ [])) ∷ (‵ (flft κ q) ⊛ ‵ ftrue) ∷ ‵ Own ∷ [])) (Post u)
+  exits : (r : Line) (u : Val) → lineReply r ≡ found → ent 𝓤 (⋆ 𝓤 H A (‵ (L.the-row .own r (u ∷ [])) ∷ (‵ (flft κ q) ⊛ ‵ ftrue) ∷ ‵ Own ∷ [])) (Post u)
   exits r u e =
       qed W (‵ (L.the-row .own r (u ∷ [])) ∷ (‵ (flft κ q) ⊛ ‵ ftrue) ∷ ‵ Own ∷ []) ∵
       suffices ! _ (ends-at 𝓤 H A f.ended stayed (f.clauses 𝓤 H A at-mem run) W (((κ, tt), (q, tt), tt, (s, (n, tt)), vals), tt) u r (tt, (tt, tt)) (tt, (tt, tt))) $ says ! e $
@@ -127,7 +127,7 @@ module _ {M : Type 1} (𝓤 : URA M) (H : Heap 𝓤) (A : Atoms 𝓤) (W : Given
         move ! (8 ∷ []) $ use1 W (raw (ReadLine 𝓤 H A at-mem run .pre to-callee) ⊛ ‵ Own) put-in $ split ! $
         calls-at ! fm (ReadLine 𝓤 H A at-mem run) known to-callee (and-then ! (load ! (from ! (stop !)) (look ! 2 refl)) (no-more !)) (λ u.
         use1 W (later (some (λ (r : Line). ((‵ (flft κ q) ⊛ ‵ ftrue) ⊛ ‵ (L.the-row .own r (u ∷ []))) ⊛ raw (ensured 𝓤 H A read-line.ended (read-line.clauses 𝓤 H A at-mem run) (κ, tt) (d, tt) tt r)))) (id⊢ 𝓤 _) $ await ! tt $ pick ! (λ r.
-        split ! $ move ! (1 ∷ []) $ use1 W (raw (fact 𝓤 (r ≡ found))) (told r) $ heard ! (r ≡ found) (λ e. split ! $ move ! (1 ∷ []) $
+        split ! $ move ! (1 ∷ []) $ use1 W (raw (fact 𝓤 (lineReply r ≡ found))) (told r) $ heard ! (lineReply r ≡ found) (λ e. split ! $ move ! (1 ∷ []) $
         -- [the result; the token; what the text owns; _3; …; _2; …; _1; …; room for _0; …]
         peeks ! L.the-row (Is L.the-row) (shows 𝓤 H A L.the-row) r (u ∷ []) (λ is.
         land ! (from ! (stop !)) (init ! 9 refl (EL.lawful L.the-type L′.the-laws 𝓤 H A W tt .typed r _ is .0)) $

@@ -4,14 +4,14 @@ use native.Mathlib.Numerals.{add-one}
 use native.Mathlib.Omega.{arith}
 use mathlib.Core.Path.{_≡_, refl}
 use Rattle.lists.specs.Lists as lists
-use Rattle.rows.specs.Table.{Table, withVersions, used, rowsOf, rowsWithin, madeWithin}
+use Rattle.rows.specs.Table.{Table, withVersions, rowsInUse, rowsOf, rowsWithin, madeWithin}
 use Rattle.lists.proofs.Count.{bit-le, count-more}
 use borrow.Author.Needs.{needs}
 use Rattle.rows.proofs.count_within.Statement.{statement}
 use Rattle.rows.proofs.count_within.Tie as tie
 
 abbrev Inv-loop : tie.InvT-loop
-Inv-loop ends words count key after until end n₀ i₀ n i = (i ≤ end) × ((end ≡ used count) × ((n ≤ i) × ((t : Table) → n ≡ lists.count (madeWithin key after until) (rowsOf (withVersions t ends words) i))))
+Inv-loop ends words count key after until end n₀ i₀ n i = (i ≤ end) × ((end ≡ rowsInUse count) × ((n ≤ i) × ((t : Table) → n ≡ lists.count (madeWithin key after until) (rowsOf (withVersions t ends words) i))))
 
 abbrev μ-loop : tie.MeasureT-loop
 μ-loop ends words count key after until end n₀ i₀ n i = end - i
@@ -53,7 +53,7 @@ loop-again c = (omega arith, (c .before .before .before .before .loop .inv .1 .0
 
 returns : tie.Need-returns Inv-loop μ-loop
 unfolding rowsWithin
-returns c t = let e : c .before .loop .i ≡ used (c .before .before .before .args .count) = omega arith in rw (← e) (c .before .loop .inv .1 .1 .1 t)
+returns c t = let e : c .before .loop .i ≡ rowsInUse (c .before .before .before .args .count) = omega arith in rw (← e) (c .before .loop .inv .1 .1 .1 t)
 
 pub count-within-spec : {M : Type 1} → statement M
 count-within-spec =

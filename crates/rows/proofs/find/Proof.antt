@@ -2,13 +2,13 @@
 use Prim.Native.Nat.{_≤_}
 use native.Mathlib.Omega.{arith}
 use mathlib.Core.Path.{_≡_}
-use Rattle.rows.specs.Table.{Table, withNames, used, rowsOf, placeOf}
+use Rattle.rows.specs.Table.{Table, withNames, rowsInUse, rowsOf, placeOf}
 use Rattle.rows.proofs.Walk.{place-over, place-hit, place-miss}
 use Rattle.rows.proofs.find.Statement.{statement}
 use Rattle.rows.proofs.find.Tie as tie
 
 abbrev Inv-loop : tie.InvT-loop
-Inv-loop names count name i₀ i = (i ≤ used count) × ((t : Table) → placeOf (rowsOf (withNames t names) i) name ≡ placeOf (rowsOf (withNames t names) (used count)) name)
+Inv-loop names count name i₀ i = (i ≤ rowsInUse count) × ((t : Table) → placeOf (rowsOf (withNames t names) i) name ≡ placeOf (rowsOf (withNames t names) (rowsInUse count)) name)
 
 abbrev μ-loop : tie.MeasureT-loop
 μ-loop names count name i₀ i = i

@@ -3,9 +3,8 @@ use Prim.Native.Nat.{_≤_, min}
 use native.Mathlib.Omega.{arith}
 use mathlib.Core.Path.{_≡_, refl}
 use Rattle.records.specs.Ledger.{chain}
-use Rattle.rows.specs.Table.{Table, withVersions, rowsOf}
-use Rattle.rows.specs.Table as table
-use Rattle.trial.specs.Reads.{reads, used, seensOf}
+use Rattle.rows.specs.Table.{Table, withVersions, rowsInUse, rowsOf}
+use Rattle.trial.specs.Reads.{reads, readsInUse, seensOf}
 use Rattle.trial.specs.Trial.{rules, leastOf}
 use Rattle.trial.proofs.Chain.{among-le, least-start, least-over, least-more, sooner-of}
 use borrow.Author.Needs.{needs}
@@ -13,7 +12,7 @@ use Rattle.trial.proofs.first_broken.Statement.{statement}
 use Rattle.trial.proofs.first_broken.Tie as tie
 
 abbrev Inv-loop : tie.InvT-loop
-Inv-loop ends words rows keys lines befores count row y at₀ rank₀ at rank = (at ≤ used count) × ((rank ≤ 4) × ((t : Table) → leastOf (rules (rowsOf (withVersions t ends words) (table.used rows)) row y) (chain (seensOf (reads keys lines befores) (used count)) (row .last)) ≡ min rank (leastOf (rules (rowsOf (withVersions t ends words) (table.used rows)) row y) (chain (seensOf (reads keys lines befores) at) at))))
+Inv-loop ends words rows keys lines befores count row y at₀ rank₀ at rank = (at ≤ readsInUse count) × ((rank ≤ 4) × ((t : Table) → leastOf (rules (rowsOf (withVersions t ends words) (rowsInUse rows)) row y) (chain (seensOf (reads keys lines befores) (readsInUse count)) (row .last)) ≡ min rank (leastOf (rules (rowsOf (withVersions t ends words) (rowsInUse rows)) row y) (chain (seensOf (reads keys lines befores) at) at))))
 
 abbrev μ-loop : tie.MeasureT-loop
 μ-loop ends words rows keys lines befores count row y at₀ rank₀ at rank = at

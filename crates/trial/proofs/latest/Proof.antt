@@ -4,7 +4,7 @@ use native.Mathlib.Omega.{arith}
 use mathlib.Core.Path.{_≡_}
 use mathlib.Core.List.{List}
 use Rattle.records.specs.Ledger.{chain}
-use Rattle.trial.specs.Reads.{reads, used, seensOf}
+use Rattle.trial.specs.Reads.{reads, readsInUse, seensOf}
 use Rattle.trial.specs.Trial.{latestOf}
 use Rattle.trial.proofs.Chain.{among-le, latest-start, latest-over, latest-more}
 use borrow.Author.Needs.{needs}
@@ -12,7 +12,7 @@ use Rattle.trial.proofs.latest.Statement.{statement}
 use Rattle.trial.proofs.latest.Tie as tie
 
 abbrev Inv-loop : tie.InvT-loop
-Inv-loop lines befores count last at₀ most₀ at most = (at ≤ used count) × ((keys : List ℕ) → latestOf (chain (seensOf (reads keys lines befores) (used count)) last) ≡ max most (latestOf (chain (seensOf (reads keys lines befores) at) at)))
+Inv-loop lines befores count last at₀ most₀ at most = (at ≤ readsInUse count) × ((keys : List ℕ) → latestOf (chain (seensOf (reads keys lines befores) (readsInUse count)) last) ≡ max most (latestOf (chain (seensOf (reads keys lines befores) at) at)))
 
 abbrev μ-loop : tie.MeasureT-loop
 μ-loop lines befores count last at₀ most₀ at most = at

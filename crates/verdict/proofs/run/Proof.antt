@@ -1,7 +1,6 @@
 -- `run` meets its contract. The invariant: what is left gives the whole answer, and the lines before it were taken.
 use Prim.Native.Nat.{_-_}
 use native.Mathlib.Omega.{arith}
-use mathlib.Core.Path.{sym, _∙_}
 use Rattle.records.specs.Ledger.{blank}
 use Rattle.records.specs.Totals.{noTotals}
 use Rattle.rows.specs.Table.{table}
@@ -9,6 +8,7 @@ use Rattle.trial.specs.Reads.{reads}
 use Rattle.ledger.specs.Books.{books, verdicts, ledgerOf}
 use Rattle.verdict.specs.Judge.{lines}
 use Rattle.verdict.proofs.Pass.{Left, left-first, blank-first, at-bad, at-end, line-refused, line-went, over-more, over-done}
+use Rattle.history.proofs.Determined.{line-is}
 use borrow.Author.Needs.{needs}
 use Rattle.verdict.proofs.run.Statement.{statement}
 use Rattle.verdict.proofs.run.Tie as tie
@@ -31,13 +31,13 @@ enum-told : tie.Need-enum-told Inv-loop μ-loop
 enum-told c = search needs
 
 returns : tie.Need-returns Inv-loop μ-loop
-returns c = at-bad (c .before .before .before .before .loop .inv) (c .before .before .before .loop-test .taken) (sym (c .before .before .next-line .ensures) ∙ c .enum-told .given .1)
+returns c = at-bad (c .before .before .before .before .loop .inv) (c .before .before .before .loop-test .taken) (line-is _ _ _ (c .before .before .next-line .ensures) (c .enum-told .given .1))
 
 enum-told-2 : tie.Need-enum-told-2 Inv-loop μ-loop
 enum-told-2 c = search needs
 
 returns-2 : tie.Need-returns-2 Inv-loop μ-loop
-returns-2 c = at-end (c .before .before .before .before .loop .inv) (c .before .before .before .loop-test .taken) (sym (c .before .before .next-line .ensures) ∙ c .enum-told2 .given .1)
+returns-2 c = at-end (c .before .before .before .before .loop .inv) (c .before .before .before .loop-test .taken) (line-is _ _ _ (c .before .before .next-line .ensures) (c .enum-told2 .given .1))
 
 enum-known-e : tie.Need-enum-known-e Inv-loop μ-loop
 enum-known-e c = search needs
@@ -51,7 +51,7 @@ enum-known-f c = search needs
 returns-3 : tie.Need-returns-3 Inv-loop μ-loop
 returns-3 c =
     let l = c .before .before .before .before .before .before .before .before .before .before .before .before .before .before .before .before .before .before .before .before .before .before in
-    line-refused _ _ _ _ _ _ _ (l .loop .inv) (c .before .before .before .before .before .before .before .before .before .before .before .before .before .before .before .before .before .before .before .before .before .loop-test .taken) (sym (c .before .before .before .before .before .before .before .before .before .before .before .before .before .before .before .before .before .before .before .before .next-line .ensures) ∙ c .before .before .before .before .before .before .before .before .before .before .before .before .before .before .before .before .before .before .e .given .1) _ _
+    line-refused _ _ _ _ _ _ _ (l .loop .inv) (c .before .before .before .before .before .before .before .before .before .before .before .before .before .before .before .before .before .before .before .before .before .loop-test .taken) (line-is _ _ _ (c .before .before .before .before .before .before .before .before .before .before .before .before .before .before .before .before .before .before .before .before .next-line .ensures) (c .before .before .before .before .before .before .before .before .before .before .before .before .before .before .before .before .before .before .e .given .1)) _ _
     (c .before .before .before .take .ensures .1) (c .before .f .given .1)
 
 enum-known-k : tie.Need-enum-known-k Inv-loop μ-loop
@@ -69,7 +69,7 @@ loop-less c = omega (arith, c .before .before .before .before .before .before .b
 loop-again : tie.Need-loop-again Inv-loop μ-loop
 loop-again c =
     let l = c .before .before .before .before .before .before .before .before .before .before .before .before .before .before .before .before .before .before .before .before .before .before .before in
-    line-went _ _ _ _ _ _ _ (l .loop .inv) (c .before .before .before .before .before .before .before .before .before .before .before .before .before .before .before .before .before .before .before .before .before .before .loop-test .taken) (sym (c .before .before .before .before .before .before .before .before .before .before .before .before .before .before .before .before .before .before .before .before .before .next-line .ensures) ∙ c .before .before .before .before .before .before .before .before .before .before .before .before .before .before .before .before .before .before .before .e .given .1) _ _
+    line-went _ _ _ _ _ _ _ (l .loop .inv) (c .before .before .before .before .before .before .before .before .before .before .before .before .before .before .before .before .before .before .before .before .before .before .loop-test .taken) (line-is _ _ _ (c .before .before .before .before .before .before .before .before .before .before .before .before .before .before .before .before .before .before .before .before .before .next-line .ensures) (c .before .before .before .before .before .before .before .before .before .before .before .before .before .before .before .before .before .before .before .e .given .1)) _ _
     (c .before .before .before .before .take .ensures .1) (c .before .before .k .given .1) (c .raise .ensures)
 
 returns-4 : tie.Need-returns-4 Inv-loop μ-loop
