@@ -1,4 +1,4 @@
-"""What both measures share: the programs, and runs of several commands on one input, in turn, with the best time of each."""
+"""What the measures share: the programs, and runs of several commands on one input, in turn, with the best time of each."""
 import os
 import platform
 import shutil
@@ -14,6 +14,25 @@ def build():
     """Proves and builds what is missing or older than its sources; what is said meanwhile goes to standard error."""
     if subprocess.run([os.path.join(top, "zoribhat"), "compare", "0", "0"], stdout=subprocess.DEVNULL).returncode:
         sys.exit("bench: nothing is measured, since ./zoribhat compare 0 0, which builds both programs and the reference, has failed")
+
+
+def prove(name):
+    """Proves and builds one program, for a measure that needs no reference."""
+    if subprocess.run(["rt", "check", name], cwd=top, stdout=sys.stderr).returncode:
+        sys.exit("bench: nothing is measured, since rt check %s has failed" % name)
+
+
+def compiled(name, libraries, missing):
+    """A C program of this folder, with the libraries that it needs; `missing` names the header where it is not there."""
+    cc = tool("cc")
+    source, program = os.path.join(top, "bench", name + ".c"), os.path.join(top, "target", "bench_" + name)
+    os.makedirs(os.path.dirname(program), exist_ok=True)
+    headers = [word for library in libraries for word in ("-include", library + ".h")]
+    if subprocess.run(cc + headers + ["-E", "-x", "c", os.devnull], stdout=subprocess.DEVNULL, stderr=subprocess.DEVNULL).returncode:
+        sys.exit("bench: nothing is measured, since this machine lacks %s" % missing)
+    if subprocess.run(cc + ["-O2", source, "-o", program] + ["-l" + library for library in libraries]).returncode:
+        sys.exit("bench: nothing is measured, since %s does not compile" % source)
+    return [program]
 
 
 def proved(name):
