@@ -8,9 +8,9 @@ import sys
 
 import beside
 
-RUNS = 7
+RUNS = 25
 # Two lengths of a run, so that the start of the process falls out.
-FEW, MANY = 40000, 400000
+FEW, MANY = 20000, 100000
 
 SQLITE = beside.compiled("transactions", ["sqlite3"], "SQLite's sqlite3.h, which is Debian's libsqlite3-dev")
 beside.prove("transactions")
