@@ -7,18 +7,21 @@ ghost use lib.ListN.{length};
 mod say;
 mod step;
 mod table;
+mod word;
 
 use copy::Copy;
 use libc::STDIN_FILENO;
 use libc::STDOUT_FILENO;
 use memory::WORDS;
-use say::put_word;
+use say::alone;
+use say::put_reply;
 use table::REPLY;
 use table::Table;
 use table::front;
 use table::play;
 use table::said;
 use units::Stamp;
+use word::UNKNOWN;
 
 // The longest line that can be a step, with its newline.
 const LINE: usize = 401;
@@ -69,7 +72,7 @@ fn play_line(line: &[u8], memory: &mut [u32; WORDS], out: &mut [u8], p: Table, n
     if n < LINE {
         return play(front(line, n + 1), memory, out, q);
     }
-    let at = put_word(out, written, b"unknown\n");
+    let at = put_reply(out, written, alone(UNKNOWN));
     said(q, at)
 }
 

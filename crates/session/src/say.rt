@@ -1,4 +1,19 @@
-// Replies as text: each answer of a call as the line that docs/SESSION.md gives it, behind what is written already.
+// Replies: each answer of a call as a reply, and a reply as the line that docs/SESSION.md gives it, behind what is written already.
+use crate::word::ABORTED;
+use crate::word::BV;
+use crate::word::COMMIT;
+use crate::word::COMPARE;
+use crate::word::DISTANCE;
+use crate::word::FV;
+use crate::word::LOOK;
+use crate::word::NEWEST;
+use crate::word::OWN;
+use crate::word::REFUSED;
+use crate::word::START;
+use crate::word::SV;
+use crate::word::TAKE;
+use crate::word::WC;
+use crate::word::put_letters;
 use comparison::Compared;
 use copy::TakeAnswer;
 use decimal::Put;
@@ -12,6 +27,204 @@ use units::Refusal;
 use units::Rule;
 use units::Version;
 
+// A word; a rule's name, or 0 for none; as many of the numbers a, b and c as `count` says; and a value where `signed` is set.
+pub(crate) struct Reply {
+    word: u64,
+    rule: u64,
+    count: u32,
+    a: u64,
+    b: u64,
+    c: u64,
+    signed: bool,
+    value: i32,
+}
+
+fn of_numbers(word: u64, rule: u64, count: u32, a: u64, b: u64, c: u64) -> Reply {
+    Reply {
+        word,
+        rule,
+        count,
+        a,
+        b,
+        c,
+        signed: false,
+        value: 0,
+    }
+}
+
+pub(crate) fn alone(word: u64) -> Reply {
+    of_numbers(word, 0, 0, 0, 0, 0)
+}
+
+pub(crate) fn with_number(word: u64, n: u64) -> Reply {
+    of_numbers(word, 0, 1, n, 0, 0)
+}
+
+fn with_value(word: u64, value: i32) -> Reply {
+    Reply {
+        word,
+        rule: 0,
+        count: 0,
+        a: 0,
+        b: 0,
+        c: 0,
+        signed: true,
+        value,
+    }
+}
+
+pub(crate) fn refused(refusal: Refusal) -> Reply {
+    with_number(REFUSED, refusal.number() as u64)
+}
+
+fn of_version(word: u64, v: Version) -> Reply {
+    let ordinal = v.ordinal;
+    let stamp = v.stamp;
+    Reply {
+        word,
+        rule: 0,
+        count: 2,
+        a: ordinal.0 as u64,
+        b: stamp.0 as u64,
+        c: 0,
+        signed: true,
+        value: v.value,
+    }
+}
+
+pub(crate) fn of_start(answer: StartAnswer) -> Reply {
+    match answer {
+        StartAnswer::Started(s) => with_number(START, s.0 as u64),
+        StartAnswer::Refused(f) => refused(f),
+    }
+}
+
+// What read and note answer, under the step's own word.
+pub(crate) fn of_read(word: u64, answer: ReadAnswer) -> Reply {
+    match answer {
+        ReadAnswer::Answered(v) => of_version(word, v),
+        ReadAnswer::Own(v) => with_value(OWN, v),
+        ReadAnswer::Refused(f) => refused(f),
+    }
+}
+
+pub(crate) fn of_done(word: u64, answer: DoneAnswer) -> Reply {
+    match answer {
+        DoneAnswer::Done => alone(word),
+        DoneAnswer::Refused(f) => refused(f),
+    }
+}
+
+pub(crate) fn of_distance(answer: DistanceAnswer) -> Reply {
+    match answer {
+        DistanceAnswer::Distance(d) => with_value(DISTANCE, of_the_log(d)),
+        DistanceAnswer::Refused(f) => refused(f),
+    }
+}
+
+// A distance is at most the length of the log, either way: nothing is cut off, and the number has the width of a value.
+fn of_the_log(d: i64) -> i32 {
+    if d < -4096 {
+        return -4096;
+    }
+    if 4096 < d {
+        return 4096;
+    }
+    d as i32
+}
+
+fn of_rule(rule: Rule) -> Reply {
+    match rule {
+        Rule::BV(i) => of_numbers(ABORTED, BV, 1, i as u64, 0, 0),
+        Rule::FV(i) => of_numbers(ABORTED, FV, 1, i as u64, 0, 0),
+        Rule::SV(i, j) => of_numbers(ABORTED, SV, 2, i as u64, j as u64, 0),
+        Rule::WC(i) => of_numbers(ABORTED, WC, 1, i as u64, 0, 0),
+    }
+}
+
+pub(crate) fn of_commit(answer: CommitAnswer) -> Reply {
+    match answer {
+        CommitAnswer::Committed(s) => with_number(COMMIT, s.0 as u64),
+        CommitAnswer::Aborted(rule) => of_rule(rule),
+        CommitAnswer::Refused(f) => refused(f),
+    }
+}
+
+pub(crate) fn of_newest(answer: NewestAnswer) -> Reply {
+    match answer {
+        NewestAnswer::MadeBy(s) => with_number(NEWEST, s.0 as u64),
+        NewestAnswer::Refused(f) => refused(f),
+    }
+}
+
+pub(crate) fn of_compared(answer: Compared) -> Reply {
+    match answer {
+        Compared::Behind(word, count, lowest) => of_numbers(
+            COMPARE,
+            0,
+            3,
+            word,
+            count as u64,
+            lowest as u64,
+        ),
+        Compared::Refused(f) => refused(f),
+    }
+}
+
+pub(crate) fn of_held(answer: copy::ReadAnswer) -> Reply {
+    match answer {
+        copy::ReadAnswer::Answered(v) => of_version(LOOK, v),
+        copy::ReadAnswer::Refused(f) => refused(f),
+    }
+}
+
+pub(crate) fn of_taken(answer: TakeAnswer) -> Reply {
+    match answer {
+        TakeAnswer::Taken => alone(TAKE),
+        TakeAnswer::Refused(f) => refused(f),
+    }
+}
+
+// The line of a reply.
+pub(crate) fn put_reply(out: &mut [u8], at: usize, r: Reply) -> usize {
+    let words = put_words(out, at, r.word, r.rule);
+    let numbers = put_numbers(out, words, r.count, r.a, r.b, r.c);
+    put_last(out, numbers, r.signed, r.value)
+}
+
+fn put_words(out: &mut [u8], at: usize, word: u64, rule: u64) -> usize {
+    let a = put_letters(out, at, word);
+    if rule == 0 {
+        return a;
+    }
+    let b = put_one(out, a, b' ');
+    put_letters(out, b, rule)
+}
+
+fn put_numbers(out: &mut [u8], at: usize, count: u32, a: u64, b: u64, c: u64) -> usize {
+    let x = put_next(out, at, 0 < count, a);
+    let y = put_next(out, x, 1 < count, b);
+    put_next(out, y, 2 < count, c)
+}
+
+fn put_next(out: &mut [u8], at: usize, there: bool, n: u64) -> usize {
+    if there {
+        let a = put_one(out, at, b' ');
+        return put_number(out, a, n);
+    }
+    at
+}
+
+// The value, where there is one, and the line's end.
+fn put_last(out: &mut [u8], at: usize, there: bool, n: i32) -> usize {
+    if there {
+        let a = put_one(out, at, b' ');
+        let b = put_value(out, a, n);
+        return put_one(out, b, b'\n');
+    }
+    put_one(out, at, b'\n')
+}
+
 pub(crate) fn put_word(out: &mut [u8], at: usize, word: &[u8]) -> usize {
     let Put::Next(e) = decimal::put_text(out, at, word) else {
         return at;
@@ -19,7 +232,7 @@ pub(crate) fn put_word(out: &mut [u8], at: usize, word: &[u8]) -> usize {
     e
 }
 
-fn put_one(out: &mut [u8], at: usize, b: u8) -> usize {
+pub(crate) fn put_one(out: &mut [u8], at: usize, b: u8) -> usize {
     let Put::Next(e) = decimal::put_byte(out, at, b) else {
         return at;
     };
@@ -38,144 +251,4 @@ fn put_value(out: &mut [u8], at: usize, n: i32) -> usize {
         return at;
     };
     e
-}
-
-fn end_line(out: &mut [u8], at: usize) -> usize {
-    put_one(out, at, b'\n')
-}
-
-// A word, a space and a number.
-pub(crate) fn say_number(out: &mut [u8], at: usize, word: &[u8], n: u64) -> usize {
-    let a = put_word(out, at, word);
-    let b = put_number(out, a, n);
-    end_line(out, b)
-}
-
-pub(crate) fn say_refused(out: &mut [u8], at: usize, refusal: Refusal) -> usize {
-    say_number(out, at, b"refused ", refusal.number() as u64)
-}
-
-fn say_version(out: &mut [u8], at: usize, word: &[u8], v: Version) -> usize {
-    let a = put_word(out, at, word);
-    let ordinal = v.ordinal;
-    let b = put_number(out, a, ordinal.0 as u64);
-    let c = put_one(out, b, b' ');
-    let stamp = v.stamp;
-    let d = put_number(out, c, stamp.0 as u64);
-    let e = put_one(out, d, b' ');
-    let value = v.value;
-    let f = put_value(out, e, value);
-    end_line(out, f)
-}
-
-pub(crate) fn say_looked(out: &mut [u8], at: usize, word: &[u8], answer: ReadAnswer) -> usize {
-    match answer {
-        ReadAnswer::Answered(v) => say_version(out, at, word, v),
-        ReadAnswer::Own(v) => {
-            let a = put_word(out, at, b"own ");
-            let b = put_value(out, a, v);
-            end_line(out, b)
-        }
-        ReadAnswer::Refused(f) => say_refused(out, at, f),
-    }
-}
-
-pub(crate) fn say_done(out: &mut [u8], at: usize, word: &[u8], answer: DoneAnswer) -> usize {
-    match answer {
-        DoneAnswer::Done => put_word(out, at, word),
-        DoneAnswer::Refused(f) => say_refused(out, at, f),
-    }
-}
-
-fn say_place(out: &mut [u8], at: usize, word: &[u8], i: usize) -> usize {
-    say_number(out, at, word, i as u64)
-}
-
-fn say_rule(out: &mut [u8], at: usize, rule: Rule) -> usize {
-    match rule {
-        Rule::BV(i) => say_place(out, at, b"aborted BV ", i),
-        Rule::FV(i) => say_place(out, at, b"aborted FV ", i),
-        Rule::SV(i, j) => {
-            let a = put_word(out, at, b"aborted SV ");
-            let b = put_number(out, a, i as u64);
-            let c = put_one(out, b, b' ');
-            let d = put_number(out, c, j as u64);
-            end_line(out, d)
-        }
-        Rule::WC(i) => say_place(out, at, b"aborted WC ", i),
-    }
-}
-
-// The distance, with its sign.
-pub(crate) fn say_distance(out: &mut [u8], at: usize, answer: DistanceAnswer) -> usize {
-    match answer {
-        DistanceAnswer::Distance(d) => {
-            let a = put_word(out, at, b"distance ");
-            let b = put_value(out, a, of_the_log(d));
-            end_line(out, b)
-        }
-        DistanceAnswer::Refused(f) => say_refused(out, at, f),
-    }
-}
-
-// A distance is at most the length of the log, either way: nothing is cut off, and the number has the width of a value.
-fn of_the_log(d: i64) -> i32 {
-    if d < -4096 {
-        return -4096;
-    }
-    if 4096 < d {
-        return 4096;
-    }
-    d as i32
-}
-
-pub(crate) fn say_commit(out: &mut [u8], at: usize, answer: CommitAnswer) -> usize {
-    match answer {
-        CommitAnswer::Committed(s) => say_number(out, at, b"commit ", s.0 as u64),
-        CommitAnswer::Aborted(rule) => say_rule(out, at, rule),
-        CommitAnswer::Refused(f) => say_refused(out, at, f),
-    }
-}
-
-pub(crate) fn say_newest(out: &mut [u8], at: usize, answer: NewestAnswer) -> usize {
-    match answer {
-        NewestAnswer::MadeBy(s) => say_number(out, at, b"newest ", s.0 as u64),
-        NewestAnswer::Refused(f) => say_refused(out, at, f),
-    }
-}
-
-pub(crate) fn say_compared(out: &mut [u8], at: usize, answer: Compared) -> usize {
-    match answer {
-        Compared::Behind(word, count, lowest) => {
-            let a = put_word(out, at, b"compare ");
-            let b = put_number(out, a, word);
-            let c = put_one(out, b, b' ');
-            let d = put_number(out, c, count as u64);
-            let e = put_one(out, d, b' ');
-            let f = put_number(out, e, lowest as u64);
-            end_line(out, f)
-        }
-        Compared::Refused(f) => say_refused(out, at, f),
-    }
-}
-
-pub(crate) fn say_start(out: &mut [u8], at: usize, answer: StartAnswer) -> usize {
-    match answer {
-        StartAnswer::Started(s) => say_number(out, at, b"start ", s.0 as u64),
-        StartAnswer::Refused(f) => say_refused(out, at, f),
-    }
-}
-
-pub(crate) fn say_held(out: &mut [u8], at: usize, answer: copy::ReadAnswer) -> usize {
-    match answer {
-        copy::ReadAnswer::Answered(v) => say_version(out, at, b"look ", v),
-        copy::ReadAnswer::Refused(f) => say_refused(out, at, f),
-    }
-}
-
-pub(crate) fn say_taken(out: &mut [u8], at: usize, answer: TakeAnswer) -> usize {
-    match answer {
-        TakeAnswer::Taken => put_word(out, at, b"take\n"),
-        TakeAnswer::Refused(f) => say_refused(out, at, f),
-    }
 }

@@ -1,4 +1,20 @@
-// A line of a session as a step: words parted by one space, numbers in their plain form (docs/SESSION.md).
+// A line of a session as a step: a word and the numbers behind it, parted by one space, the numbers in their plain form (docs/SESSION.md).
+use crate::word::ABORT;
+use crate::word::COMMIT;
+use crate::word::COMPARE;
+use crate::word::COPY;
+use crate::word::DISTANCE;
+use crate::word::LOOK;
+use crate::word::MESSAGE;
+use crate::word::NEWEST;
+use crate::word::NOTE;
+use crate::word::OPEN;
+use crate::word::READ;
+use crate::word::START;
+use crate::word::TAKE;
+use crate::word::TUNE;
+use crate::word::WRITE;
+use crate::word::word_of;
 use decimal::Natural;
 use decimal::Signed;
 
@@ -21,19 +37,54 @@ pub(crate) enum Step {
     Unknown,
 }
 
-// Whether a line begins with a word.
-fn begins(line: &[u8], word: &[u8]) -> bool {
-    if line.len() < word.len() {
-        return false;
+// The numbers behind a word, up to four, and how many they are; five where something else stands before the line's end.
+struct Numbers {
+    count: u32,
+    a: u32,
+    b: u32,
+    c: u32,
+    d: u32,
+}
+
+fn numbers_of(line: &[u8], at: usize) -> Numbers {
+    let a = number(line, at);
+    let b = next(line, a);
+    let c = next(line, b);
+    let d = next(line, c);
+    Numbers {
+        count: count(line, at, a, b, c, d),
+        a: value(a),
+        b: value(b),
+        c: value(c),
+        d: value(d),
     }
-    let mut i = 0;
-    while i < word.len() {
-        if line[i] != word[i] {
-            return false;
-        }
-        i += 1;
+}
+
+// Behind which of them the line ends.
+fn count(line: &[u8], at: usize, a: Natural, b: Natural, c: Natural, d: Natural) -> u32 {
+    if has(line, at, b'\n') {
+        return 0;
     }
-    true
+    if is_last(line, a) {
+        return 1;
+    }
+    if is_last(line, b) {
+        return 2;
+    }
+    if is_last(line, c) {
+        return 3;
+    }
+    if is_last(line, d) {
+        return 4;
+    }
+    5
+}
+
+fn has(line: &[u8], at: usize, b: u8) -> bool {
+    if at < line.len() {
+        return line[at] == b;
+    }
+    false
 }
 
 // A number behind the space at a place.
@@ -56,12 +107,7 @@ fn next(line: &[u8], n: Natural) -> Natural {
 // Whether a number is the line's last word.
 fn is_last(line: &[u8], n: Natural) -> bool {
     match n {
-        Natural::Number(_, e) => {
-            if e < line.len() {
-                return line[e] == b'\n';
-            }
-            false
-        }
+        Natural::Number(_, e) => has(line, e, b'\n'),
         Natural::Bad => false,
     }
 }
@@ -86,95 +132,82 @@ fn bound(n: u32) -> u16 {
 }
 
 pub(crate) fn step_of(line: &[u8]) -> Step {
-    if begins(line, b"read ") {
-        let a = number(line, 4);
-        let b = next(line, a);
-        if is_last(line, b) {
-            return Step::Read(value(a), value(b));
-        }
-        return Step::Unknown;
-    }
-    if begins(line, b"write ") {
+    let word = word_of(line);
+    let letters = word.letters;
+    if letters == WRITE {
         return write_of(line);
     }
-    if begins(line, b"commit ") {
-        let a = number(line, 6);
-        if is_last(line, a) {
-            return Step::Commit(value(a));
-        }
-        return Step::Unknown;
+    if letters == TAKE {
+        return take_of(line);
     }
-    if begins(line, b"start\n") {
-        return Step::Start;
-    }
-    if begins(line, b"note ") {
-        let a = number(line, 4);
-        let b = next(line, a);
-        let c = next(line, b);
-        if is_last(line, c) {
-            return Step::Note(value(a), value(b), value(c));
-        }
-        return Step::Unknown;
-    }
-    if begins(line, b"tune ") {
-        return tune_of(line);
-    }
-    if begins(line, b"take ") {
-        return Step::Take;
-    }
-    other_step(line)
+    numbered(letters, numbers_of(line, word.end))
 }
 
-fn other_step(line: &[u8]) -> Step {
-    if begins(line, b"distance ") {
-        let a = number(line, 8);
-        let b = next(line, a);
-        if is_last(line, b) {
-            return Step::Distance(value(a), value(b));
+fn numbered(word: u64, n: Numbers) -> Step {
+    let count = n.count;
+    match count {
+        0 => with_none(word),
+        1 => with_one(word, n.a),
+        2 => with_two(word, n.a, n.b),
+        3 => with_three(word, n.a, n.b, n.c),
+        4 => with_four(word, n.a, n.b, n.c, n.d),
+        _ => Step::Unknown,
+    }
+}
+
+fn with_none(word: u64) -> Step {
+    match word {
+        START => Step::Start,
+        COPY => Step::Copy,
+        COMPARE => Step::Compare,
+        _ => Step::Unknown,
+    }
+}
+
+fn with_one(word: u64, a: u32) -> Step {
+    match word {
+        COMMIT => Step::Commit(a),
+        ABORT => Step::Abort(a),
+        NEWEST => Step::Newest(a),
+        LOOK => Step::Look(a),
+        OPEN => Step::Open(a),
+        _ => Step::Unknown,
+    }
+}
+
+fn with_two(word: u64, a: u32, b: u32) -> Step {
+    match word {
+        READ => Step::Read(a, b),
+        DISTANCE => Step::Distance(a, b),
+        MESSAGE => Step::Message(a, b),
+        _ => Step::Unknown,
+    }
+}
+
+fn with_three(word: u64, a: u32, b: u32, c: u32) -> Step {
+    if word == NOTE {
+        return Step::Note(a, b, c);
+    }
+    Step::Unknown
+}
+
+fn with_four(word: u64, a: u32, b: u32, c: u32, d: u32) -> Step {
+    if word == TUNE {
+        if b < 65536 {
+            if c < 65536 {
+                if d < 65536 {
+                    return Step::Tune(a, bound(b), bound(c), bound(d));
+                }
+            }
         }
-        return Step::Unknown;
     }
-    if begins(line, b"abort ") {
-        let a = number(line, 5);
-        if is_last(line, a) {
-            return Step::Abort(value(a));
-        }
-        return Step::Unknown;
-    }
-    if begins(line, b"message ") {
-        let a = number(line, 7);
-        let b = next(line, a);
-        if is_last(line, b) {
-            return Step::Message(value(a), value(b));
-        }
-        return Step::Unknown;
-    }
-    if begins(line, b"newest ") {
-        let a = number(line, 6);
-        if is_last(line, a) {
-            return Step::Newest(value(a));
-        }
-        return Step::Unknown;
-    }
-    if begins(line, b"look ") {
-        let a = number(line, 4);
-        if is_last(line, a) {
-            return Step::Look(value(a));
-        }
-        return Step::Unknown;
-    }
-    if begins(line, b"open ") {
-        let a = number(line, 4);
-        if is_last(line, a) {
-            return Step::Open(value(a));
-        }
-        return Step::Unknown;
-    }
-    if begins(line, b"compare\n") {
-        return Step::Compare;
-    }
-    if begins(line, b"copy\n") {
-        return Step::Copy;
+    Step::Unknown
+}
+
+// What stands behind the space is the message.
+fn take_of(line: &[u8]) -> Step {
+    if has(line, 4, b' ') {
+        return Step::Take;
     }
     Step::Unknown
 }
@@ -202,23 +235,6 @@ fn value_of(line: &[u8], name: u32, key: u32, at: usize) -> Step {
                     return Step::Unknown;
                 }
                 Signed::Bad => return Step::Unknown,
-            }
-        }
-    }
-    Step::Unknown
-}
-
-fn tune_of(line: &[u8]) -> Step {
-    let a = number(line, 4);
-    let b = next(line, a);
-    let c = next(line, b);
-    let d = next(line, c);
-    if is_last(line, d) {
-        if value(b) < 65536 {
-            if value(c) < 65536 {
-                if value(d) < 65536 {
-                    return Step::Tune(value(a), bound(value(b)), bound(value(c)), bound(value(d)));
-                }
             }
         }
     }

@@ -1,19 +1,30 @@
 // The table at which a session is played: the copy, and what is written and read so far, beside the master's memory; and what a step does.
 ghost use Prim.Native.Nat.{_≤_};
+use crate::say::Reply;
+use crate::say::alone;
+use crate::say::of_commit;
+use crate::say::of_compared;
+use crate::say::of_distance;
+use crate::say::of_done;
+use crate::say::of_held;
+use crate::say::of_newest;
+use crate::say::of_read;
+use crate::say::of_start;
+use crate::say::of_taken;
+use crate::say::put_reply;
 use crate::say::put_word;
-use crate::say::say_commit;
-use crate::say::say_compared;
-use crate::say::say_distance;
-use crate::say::say_done;
-use crate::say::say_held;
-use crate::say::say_looked;
-use crate::say::say_newest;
-use crate::say::say_number;
-use crate::say::say_refused;
-use crate::say::say_start;
-use crate::say::say_taken;
+use crate::say::refused;
+use crate::say::with_number;
 use crate::step::Step;
 use crate::step::step_of;
+use crate::word::ABORT;
+use crate::word::COPY;
+use crate::word::NOTE;
+use crate::word::OPEN;
+use crate::word::READ;
+use crate::word::TUNE;
+use crate::word::UNKNOWN;
+use crate::word::WRITE;
 use copy::Copy;
 use memory::WORDS;
 use message::MessageAnswer;
@@ -43,91 +54,75 @@ fn with_copy(p: Table, copy: Copy, at: usize) -> Table {
     q
 }
 
-// A step at the copy, or else one at the master.
+// A step that has the room for its text or changes the copy, or else one that only answers.
 pub(crate) fn play(line: &[u8], memory: &mut [u32; WORDS], out: &mut [u8], p: Table) -> Table {
     let step = step_of(line);
     match step {
-        Step::Copy => {
-            let at = put_word(out, p.written, b"copy\n");
-            with_copy(p, Copy::fresh(), at)
-        }
-        Step::Look(k) => {
-            let c = p.copy;
-            let at = say_held(out, p.written, c.read(k));
+        Step::Message(s, room) => {
+            let at = say_message(memory, out, p.written, Stamp(s), room);
             said(p, at)
+        }
+        Step::Copy => {
+            let at = put_reply(out, p.written, alone(COPY));
+            with_copy(p, Copy::fresh(), at)
         }
         Step::Take => {
             let c = p.copy;
             let r = take_rest(line, c);
             let answer = r.answer;
             let next = r.copy;
-            let at = say_taken(out, p.written, answer);
+            let at = put_reply(out, p.written, of_taken(answer));
             with_copy(p, next, at)
+        }
+        Step::Look(k) => {
+            let c = p.copy;
+            let at = put_reply(out, p.written, look(c, k));
+            said(p, at)
         }
         Step::Compare => {
             let c = p.copy;
-            let at = say_compared(out, p.written, comparison::compare(memory, c.ordinals()));
+            let at = put_reply(out, p.written, compare(memory, c));
             said(p, at)
         }
         _ => {
-            let at = play_master(step, memory, out, p.written);
+            let at = put_reply(out, p.written, ask(step, memory));
             said(p, at)
         }
     }
 }
 
-// The steps that look at versions of the master.
-fn play_master(step: Step, memory: &mut [u32; WORDS], out: &mut [u8], at: usize) -> usize {
+fn look(c: Copy, key: u32) -> Reply {
+    of_held(c.read(key))
+}
+
+fn compare(memory: &[u32; WORDS], c: Copy) -> Reply {
+    of_compared(comparison::compare(memory, c.ordinals()))
+}
+
+// The steps at the master: those that look at its versions.
+fn ask(step: Step, memory: &mut [u32; WORDS]) -> Reply {
     match step {
-        Step::Read(t, k) => {
-            let r = master::read(memory, Stamp(t), k);
-            say_looked(out, at, b"read ", r)
-        }
-        Step::Note(t, k, o) => {
-            let r = master::note(memory, Stamp(t), k, Ordinal(o));
-            say_looked(out, at, b"note ", r)
-        }
-        Step::Distance(t, i) => {
-            let d = master::distance(memory, Stamp(t), i);
-            say_distance(out, at, d)
-        }
-        Step::Commit(t) => {
-            let r = master::commit(memory, Stamp(t));
-            say_commit(out, at, r)
-        }
-        Step::Message(s, room) => say_message(memory, out, at, Stamp(s), room),
-        Step::Newest(k) => {
-            let n = master::newest(memory, k);
-            say_newest(out, at, n)
-        }
-        _ => play_desk(step, memory, out, at),
+        Step::Read(t, k) => of_read(READ, master::read(memory, Stamp(t), k)),
+        Step::Note(t, k, o) => of_read(NOTE, master::note(memory, Stamp(t), k, Ordinal(o))),
+        Step::Distance(t, i) => of_distance(master::distance(memory, Stamp(t), i)),
+        Step::Commit(t) => of_commit(master::commit(memory, Stamp(t))),
+        Step::Newest(k) => of_newest(master::newest(memory, k)),
+        _ => ask_desk(step, memory),
     }
 }
 
-// The steps that look at no version.
-fn play_desk(step: Step, memory: &mut [u32; WORDS], out: &mut [u8], at: usize) -> usize {
+// And those that look at none.
+fn ask_desk(step: Step, memory: &mut [u32; WORDS]) -> Reply {
     match step {
-        Step::Start => {
-            let r = desk::start(memory);
-            say_start(out, at, r)
-        }
-        Step::Write(t, k, v) => {
-            let r = desk::write(memory, Stamp(t), k, v);
-            say_done(out, at, b"write\n", r)
-        }
-        Step::Tune(t, k1, k2, k3) => {
-            let r = desk::tune(memory, Stamp(t), k1, k2, k3);
-            say_done(out, at, b"tune\n", r)
-        }
-        Step::Abort(t) => {
-            let r = desk::abort(memory, Stamp(t));
-            say_done(out, at, b"abort\n", r)
-        }
+        Step::Start => of_start(desk::start(memory)),
+        Step::Write(t, k, v) => of_done(WRITE, desk::write(memory, Stamp(t), k, v)),
+        Step::Tune(t, k1, k2, k3) => of_done(TUNE, desk::tune(memory, Stamp(t), k1, k2, k3)),
+        Step::Abort(t) => of_done(ABORT, desk::abort(memory, Stamp(t))),
         Step::Open(n) => {
             desk::open(memory, Stamp(n));
-            say_number(out, at, b"open ", n as u64)
+            with_number(OPEN, n as u64)
         }
-        _ => put_word(out, at, b"unknown\n"),
+        _ => alone(UNKNOWN),
     }
 }
 
@@ -145,7 +140,7 @@ fn say_message(memory: &[u32; WORDS], out: &mut [u8], at: usize, stamp: Stamp, r
     let n = lent(room);
     match post::send(memory, stamp, front_mut(&mut text, n)) {
         MessageAnswer::Bytes(e) => put_text(out, at, &text, e),
-        MessageAnswer::Refused(f) => say_refused(out, at, f),
+        MessageAnswer::Refused(f) => put_reply(out, at, refused(f)),
     }
 }
 
