@@ -4,6 +4,7 @@
 ghost use Prim.Native.Nat.{_<_, _≤_};
 ghost use lib.ListN.{length};
 
+mod ask;
 mod say;
 mod step;
 mod table;
@@ -14,12 +15,11 @@ use libc::STDIN_FILENO;
 use libc::STDOUT_FILENO;
 use memory::WORDS;
 use say::alone;
-use say::put_reply;
 use table::REPLY;
 use table::Table;
 use table::front;
 use table::play;
-use table::said;
+use table::tell;
 use units::Stamp;
 use word::UNKNOWN;
 
@@ -72,8 +72,7 @@ fn play_line(line: &[u8], memory: &mut [u32; WORDS], out: &mut [u8], p: Table, n
     if n < LINE {
         return play(front(line, n + 1), memory, out, q);
     }
-    let at = put_reply(out, written, alone(UNKNOWN));
-    said(q, at)
+    tell(out, q, alone(UNKNOWN))
 }
 
 fn keep(line: &mut [u8], n: usize, b: u8) {

@@ -1,30 +1,11 @@
-// Replies: each answer of a call as a reply, and a reply as the line that docs/SESSION.md gives it, behind what is written already.
-use crate::word::ABORTED;
-use crate::word::BV;
-use crate::word::COMMIT;
-use crate::word::COMPARE;
-use crate::word::DISTANCE;
-use crate::word::FV;
-use crate::word::LOOK;
-use crate::word::NEWEST;
+// Replies: a reply as a value, and as the line that docs/SESSION.md gives it, behind what is written already.
 use crate::word::OWN;
 use crate::word::REFUSED;
-use crate::word::START;
-use crate::word::SV;
-use crate::word::TAKE;
-use crate::word::WC;
 use crate::word::put_letters;
-use comparison::Compared;
-use copy::TakeAnswer;
 use decimal::Put;
 use desk::DoneAnswer;
-use desk::StartAnswer;
-use master::CommitAnswer;
-use master::DistanceAnswer;
-use master::NewestAnswer;
 use master::ReadAnswer;
 use units::Refusal;
-use units::Rule;
 use units::Version;
 
 // A word; a rule's name, or 0 for none; as many of the numbers a, b and c as `count` says; and a value where `signed` is set.
@@ -39,7 +20,7 @@ pub(crate) struct Reply {
     value: i32,
 }
 
-fn of_numbers(word: u64, rule: u64, count: u32, a: u64, b: u64, c: u64) -> Reply {
+pub(crate) fn of_numbers(word: u64, rule: u64, count: u32, a: u64, b: u64, c: u64) -> Reply {
     Reply {
         word,
         rule,
@@ -60,7 +41,7 @@ pub(crate) fn with_number(word: u64, n: u64) -> Reply {
     of_numbers(word, 0, 1, n, 0, 0)
 }
 
-fn with_value(word: u64, value: i32) -> Reply {
+pub(crate) fn with_value(word: u64, value: i32) -> Reply {
     Reply {
         word,
         rule: 0,
@@ -77,7 +58,7 @@ pub(crate) fn refused(refusal: Refusal) -> Reply {
     with_number(REFUSED, refusal.number() as u64)
 }
 
-fn of_version(word: u64, v: Version) -> Reply {
+pub(crate) fn of_version(word: u64, v: Version) -> Reply {
     let ordinal = v.ordinal;
     let stamp = v.stamp;
     Reply {
@@ -89,13 +70,6 @@ fn of_version(word: u64, v: Version) -> Reply {
         c: 0,
         signed: true,
         value: v.value,
-    }
-}
-
-pub(crate) fn of_start(answer: StartAnswer) -> Reply {
-    match answer {
-        StartAnswer::Started(s) => with_number(START, s.0 as u64),
-        StartAnswer::Refused(f) => refused(f),
     }
 }
 
@@ -112,76 +86,6 @@ pub(crate) fn of_done(word: u64, answer: DoneAnswer) -> Reply {
     match answer {
         DoneAnswer::Done => alone(word),
         DoneAnswer::Refused(f) => refused(f),
-    }
-}
-
-pub(crate) fn of_distance(answer: DistanceAnswer) -> Reply {
-    match answer {
-        DistanceAnswer::Distance(d) => with_value(DISTANCE, of_the_log(d)),
-        DistanceAnswer::Refused(f) => refused(f),
-    }
-}
-
-// A distance is at most the length of the log, either way: nothing is cut off, and the number has the width of a value.
-fn of_the_log(d: i64) -> i32 {
-    if d < -4096 {
-        return -4096;
-    }
-    if 4096 < d {
-        return 4096;
-    }
-    d as i32
-}
-
-fn of_rule(rule: Rule) -> Reply {
-    match rule {
-        Rule::BV(i) => of_numbers(ABORTED, BV, 1, i as u64, 0, 0),
-        Rule::FV(i) => of_numbers(ABORTED, FV, 1, i as u64, 0, 0),
-        Rule::SV(i, j) => of_numbers(ABORTED, SV, 2, i as u64, j as u64, 0),
-        Rule::WC(i) => of_numbers(ABORTED, WC, 1, i as u64, 0, 0),
-    }
-}
-
-pub(crate) fn of_commit(answer: CommitAnswer) -> Reply {
-    match answer {
-        CommitAnswer::Committed(s) => with_number(COMMIT, s.0 as u64),
-        CommitAnswer::Aborted(rule) => of_rule(rule),
-        CommitAnswer::Refused(f) => refused(f),
-    }
-}
-
-pub(crate) fn of_newest(answer: NewestAnswer) -> Reply {
-    match answer {
-        NewestAnswer::MadeBy(s) => with_number(NEWEST, s.0 as u64),
-        NewestAnswer::Refused(f) => refused(f),
-    }
-}
-
-pub(crate) fn of_compared(answer: Compared) -> Reply {
-    match answer {
-        Compared::Behind(word, count, lowest) => of_numbers(
-            COMPARE,
-            0,
-            3,
-            word,
-            count as u64,
-            lowest as u64,
-        ),
-        Compared::Refused(f) => refused(f),
-    }
-}
-
-pub(crate) fn of_held(answer: copy::ReadAnswer) -> Reply {
-    match answer {
-        copy::ReadAnswer::Answered(v) => of_version(LOOK, v),
-        copy::ReadAnswer::Refused(f) => refused(f),
-    }
-}
-
-pub(crate) fn of_taken(answer: TakeAnswer) -> Reply {
-    match answer {
-        TakeAnswer::Taken => alone(TAKE),
-        TakeAnswer::Refused(f) => refused(f),
     }
 }
 

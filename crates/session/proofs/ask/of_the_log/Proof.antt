@@ -9,8 +9,8 @@ use lib.Signed.{mag, ltZ}
 use mir.Syntax.{w64}
 use mir.Val.{toZ, ofZ}
 use borrow.Author.Needs.{needs}
-use Rattle.session.proofs.say.of_the_log.Statement.{statement}
-use Rattle.session.proofs.say.of_the_log.Tie as tie
+use Rattle.session.proofs.ask.of_the_log.Statement.{statement}
+use Rattle.session.proofs.ask.of_the_log.Tie as tie
 
 small : (d : ℤ) → ltZ d (negsuc 4095) ≡ false → ltZ (pos 4096) d ≡ false → mag d < 2 ^ 31
 small (pos n) h k = omega (arith, ltb-false 4096 n k)
