@@ -1,2 +1,1 @@
-pub mod Books
 pub mod Take

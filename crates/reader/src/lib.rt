@@ -1,8 +1,9 @@
-// The judge reads a history line by line from a place that it remembers: document 01, "What form each place takes". A reader holds the
-// lent history and the place. The borrow checker covers no function over such a struct, so read_line and next_line are proved by hand; what is
-// done at the place is line_from's, which is covered, and history::line_at's. Whoever calls next_line needs no such proof.
+// The judge reads a history line by line from a place that it remembers: document 01, "What form each place takes". A reader holds the lent history
+// and the place. The borrow checker covers no function over such a struct, so next is proved by hand; what is done at the place is
+// history::line_at's, which is covered.
 ghost use mathlib.Core.Path.{_≡_};
 ghost use Rattle.history.specs.Line.{lineReply, lineSaid};
+ghost use Rattle.reader.specs.Reader.{placeAfter, movedBy};
 use history::Line;
 use history::line_at;
 
@@ -11,21 +12,22 @@ pub struct Reader<'a> {
     pub at: usize,
 }
 
-// The line at the reader's place. The place of the next one is in the answer.
-pub fn read_line<'a>(r: Reader<'a>) -> Line
-    ensures { λ l. ⌜ lineReply l ≡ lineSaid (now (r .entry .text)) (r .entry .at) ⌝ }
+// The line at the reader's place; the reader moves behind it. Where there is no record it stays.
+pub fn next<'s, 'a>(r: &'s mut Reader<'a>) -> Line
+    ensures line { λ l. ⌜ lineReply l ≡ lineSaid (now (now (r .entry) .text)) (now (r .entry) .at) ⌝ }
+    ensures reader { λ l. ⌜ now (r .exit) ≡ movedBy l (now (r .entry)) ⌝ }
 {
-    line_from(r.text, r.at)
+    let l = line_at(r.text, r.at);
+    r.at = after(l, r.at);
+    l
 }
 
-fn line_from(text: &[u8], at: usize) -> Line
-    ensures { λ l. ⌜ lineReply l ≡ lineSaid (now (text .entry)) at ⌝ }
+fn after(l: Line, at: usize) -> usize
+    ensures { λ r. ⌜ r ≡ placeAfter l at ⌝ }
 {
-    line_at(text, at)
-}
-
-pub fn next_line(text: &[u8], at: usize) -> Line
-    ensures { λ l. ⌜ lineReply l ≡ lineSaid (now (text .entry)) at ⌝ }
-{
-    read_line(Reader { text, at })
+    match l {
+        Line::Taken(_, next) => next,
+        Line::Bad => at,
+        Line::End => at,
+    }
 }

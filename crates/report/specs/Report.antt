@@ -1,11 +1,10 @@
 -- What the judge prints, as text. Document 01: "prints lines with one space between fields: `judge` and the number of committed
 -- transactions; for each, in order of commit lines, its number and `ok` or the rule; last `total` with the numbers started, committed,
 -- aborted and still open. On a refusal it prints only `refused`, the number and the line".
-use Prim.Native.Nat.{ℕ, zero, suc}
+use Prim.Native.Nat.{ℕ}
 use mathlib.Core.List.{List, [], _∷_, _++_}
-use lib.ListN.{length, getD}
+use lib.ListN.{length}
 use Rattle.decimal.specs.Text.{decimal, joined}
-use Rattle.records.specs.Order.{verdictFrom}
 use Rattle.records.specs.declared.Judged.{Judged}
 use Rattle.records.specs.declared.Totals.{Totals}
 use Rattle.records.specs.declared.Verdict.{Verdict}
@@ -53,14 +52,3 @@ reportText js t = headLine (length js) ++ verdictLines js ++ totalLine t
 
 unfoldable pub refusedText : ℕ → ℕ → List ℕ
 refusedText number line = spacedLine refusedWord (decimal number ∷ decimal line ∷ [])
-
--- ---- the verdicts in two columns
-
--- whose, and the verdict by its place in the order
-abbrev pub judgedWith : ℕ → ℕ → Judged
-judgedWith name code = record { name = name; verdict = verdictFrom code }
-
--- the first n verdicts, the oldest first
-unfoldable pub judgedList : List ℕ → List ℕ → ℕ → List Judged
-judgedList names codes zero = []
-judgedList names codes (suc n) = judgedList names codes n ++ (judgedWith (getD names n 0) (getD codes n 0) ∷ [])

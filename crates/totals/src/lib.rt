@@ -1,7 +1,6 @@
 // The totals of a written history, raised one line at a time. A struct of four counters is lent by &mut to one small function for each
 // record that moves them: document 01, "What form each place takes". The borrow checker covers no function over a struct behind a
-// reference, so those three, and the three that lend a local to them, are proved by hand. They hold no arithmetic: that is done by value.
-// Whoever calls raise needs no such proof.
+// reference, so these are proved by hand.
 ghost use Prim.Native.Nat.{_+_, _-_, min};
 ghost use mathlib.Core.Path.{_≡_};
 ghost use Rattle.records.specs.Totals.{raiseStarted, raiseCommitted, raiseAborted, raised};
@@ -11,111 +10,56 @@ use records::Totals;
 // The largest number of 32 bits.
 const LAST: u32 = 4294967295;
 
-// The totals after a record.
-pub fn raise(t: Totals, e: Record) -> Totals
-    ensures { λ r. ⌜ r ≡ raised e t ⌝ }
+// The totals after a record: it chooses the counters.
+pub fn raise(t: &mut Totals, e: Record)
+    ensures { λ _. ⌜ now (t .exit) ≡ raised e (now (t .entry)) ⌝ }
 {
     match e {
-        Record::Start(_) => with_started(t),
-        Record::Tune(_, _) => t,
-        Record::Read(_, _, _) => t,
-        Record::Write(_, _) => t,
-        Record::Commit(_) => with_committed(t),
-        Record::Abort(_) => with_aborted(t),
+        Record::Start(_) => raise_started(t),
+        Record::Tune(_, _) => {}
+        Record::Read(_, _, _) => {}
+        Record::Write(_, _) => {}
+        Record::Commit(_) => raise_committed(t),
+        Record::Abort(_) => raise_aborted(t),
     }
 }
 
 pub fn raise_started(t: &mut Totals)
     ensures { λ _. ⌜ now (t .exit) ≡ raiseStarted (now (t .entry)) ⌝ }
 {
-    *t = started(*t);
+    t.started = more(t.started);
+    t.open = more(t.open);
 }
 
 pub fn raise_committed(t: &mut Totals)
     ensures { λ _. ⌜ now (t .exit) ≡ raiseCommitted (now (t .entry)) ⌝ }
 {
-    *t = committed(*t);
+    t.committed = more(t.committed);
+    t.open = less(t.open);
 }
 
 pub fn raise_aborted(t: &mut Totals)
     ensures { λ _. ⌜ now (t .exit) ≡ raiseAborted (now (t .entry)) ⌝ }
 {
-    *t = aborted(*t);
-}
-
-pub fn with_started(t: Totals) -> Totals
-    ensures { λ r. ⌜ r ≡ raiseStarted t ⌝ }
-{
-    let mut u = t;
-    raise_started(&mut u);
-    u
-}
-
-pub fn with_committed(t: Totals) -> Totals
-    ensures { λ r. ⌜ r ≡ raiseCommitted t ⌝ }
-{
-    let mut u = t;
-    raise_committed(&mut u);
-    u
-}
-
-pub fn with_aborted(t: Totals) -> Totals
-    ensures { λ r. ⌜ r ≡ raiseAborted t ⌝ }
-{
-    let mut u = t;
-    raise_aborted(&mut u);
-    u
-}
-
-fn started(t: Totals) -> Totals
-    ensures { λ r. ⌜ r ≡ raiseStarted t ⌝ }
-{
-    Totals {
-        started: saturating_add(t.started, 1),
-        committed: t.committed,
-        aborted: t.aborted,
-        open: saturating_add(t.open, 1),
-    }
-}
-
-fn committed(t: Totals) -> Totals
-    ensures { λ r. ⌜ r ≡ raiseCommitted t ⌝ }
-{
-    Totals {
-        started: t.started,
-        committed: saturating_add(t.committed, 1),
-        aborted: t.aborted,
-        open: saturating_sub(t.open, 1),
-    }
-}
-
-fn aborted(t: Totals) -> Totals
-    ensures { λ r. ⌜ r ≡ raiseAborted t ⌝ }
-{
-    let left = saturating_sub(t.open, 1);
-    Totals {
-        started: t.started,
-        committed: t.committed,
-        aborted: saturating_add(t.aborted, 1),
-        open: left,
-    }
+    t.aborted = more(t.aborted);
+    t.open = less(t.open);
 }
 
 // No counter wraps; no history comes near the last number.
-fn saturating_add(n: u32, k: u32) -> u32
-    ensures { λ r. ⌜ r ≡ min (n + k) 4294967295 ⌝ }
+fn more(n: u32) -> u32
+    ensures { λ r. ⌜ r ≡ min (n + 1) 4294967295 ⌝ }
 {
-    if n <= LAST - k {
-        return n + k;
+    if n <= LAST - 1 {
+        return n + 1;
     }
     LAST
 }
 
-fn saturating_sub(n: u32, k: u32) -> u32
-    ensures { λ r. ⌜ r ≡ n - k ⌝ }
+fn less(n: u32) -> u32
+    ensures { λ r. ⌜ r ≡ n - 1 ⌝ }
 {
-    if k <= n {
-        return n - k;
+    if 1 <= n {
+        return n - 1;
     }
     0
 }

@@ -1,8 +1,8 @@
 -- The rules of one read as one number, so that a commit's reads are walked once: the place of the first rule that the read breaks.
 use Prim.Native.Nat.{ℕ, zero, suc, min, max}
-use mathlib.Core.Bool.{Bool, cond}
+use mathlib.Core.Bool.{Bool, cond, _&&_}
 use mathlib.Core.List.{List, [], _∷_}
-use lib.Dec.{ltb}
+use lib.Dec.{eqb, leb, ltb}
 use lib.ListN.{length}
 use Rattle.lists.specs.Lists.{find}
 use Rattle.records.specs.Ledger.{unread, stale, early, rowsBetween}
@@ -10,6 +10,10 @@ use Rattle.records.specs.declared.Row.{Row}
 use Rattle.records.specs.declared.Seen.{Seen}
 use Rattle.records.specs.declared.Verdict.{Verdict}
 use Rattle.records.specs.declared.Verdict.the-variants.{RC, BV, FV, SV}
+
+-- the read of a number, where it is among the first ones; else none
+unfoldable pub among : ℕ → ℕ → ℕ
+among number most = cond (leb number most) number 0
 
 -- the latest line read
 unfoldable pub latestOf : List Seen → ℕ
@@ -31,6 +35,12 @@ rankOf ps s = find (λ (p : Seen → Bool). p s) ps
 -- of BV and FV alone: 1, 2, or neither
 unfoldable pub farOf : List Row → Row → Seen → ℕ
 farOf rows r s = cond (stale rows r s) 1 (cond (early rows r s) 2 4)
+
+-- the same from n, the versions between the start and the line read
+unfoldable pub farBy : Row → ℕ → ℕ → ℕ
+farBy r line n =
+    cond (leb line (r .start)) (cond (leb (r .bounds .k1) n) 1 4)
+    (cond (ltb (r .bounds .k2) n) 2 (cond (eqb n 0 && eqb (r .bounds .k1) 0) 1 4))
 
 -- the least of the reads' ranks
 unfoldable pub leastOf : List (Seen → Bool) → List Seen → ℕ

@@ -2,6 +2,7 @@
 -- a text that is judged, of one that is refused, and of document 01's own.
 pub mod Judge
 pub mod Reply
+pub mod Pass
 pub mod Whole
 pub mod Show
 pub mod Refused

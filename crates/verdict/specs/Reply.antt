@@ -1,14 +1,11 @@
 -- The judge's reply in document 01's numbers, and the lent room after it.
-use Prim.Native.Nat.{ℕ, min}
-use mathlib.Core.List.{List, reverse}
+use Prim.Native.Nat.{ℕ}
+use mathlib.Core.List.{List}
 use Rattle.units.specs.Refusal.{numberOf}
 use Rattle.decimal.specs.Write.{put, handedOver}
-use Rattle.ledger.specs.Books.{Verdicts, judgedOf}
 use Rattle.report.specs.Report.{reportText}
 use Rattle.verdict.specs.declared.Answer.{Answer}
 use Rattle.verdict.specs.declared.Answer as answer
-use Rattle.verdict.specs.declared.Ran.{Ran}
-use Rattle.verdict.specs.declared.Ran as ran
 use Rattle.verdict.specs.Judge.{Report, refused, judged}
 
 -- how many bytes were written, or a refusal by its number and line
@@ -29,8 +26,3 @@ replied (judged js t) room = handedOver bytes (refusedAt 17 0) room (reportText 
 abbrev pub roomAfter : Report → List ℕ → List ℕ
 roomAfter (refused number line) room = room
 roomAfter (judged js t) room = put room 0 (reportText js t)
-
--- what the pass over the lines answered, with the columns of the verdicts
-abbrev pub ranTo : Ran → Verdicts → Report
-ranTo (ran.the-variants.Done k t) v = judged (reverse (judgedOf v (min (k .judged) 512))) t
-ranTo (ran.the-variants.Refused f line) v = refused (numberOf f) line

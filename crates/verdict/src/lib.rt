@@ -1,17 +1,19 @@
 // The judge of written histories: one pass over the lines of a lent text, and its output in lent room, whole or not at all.
+ghost use Prim.Native.Nat.{ℕ};
+ghost use mathlib.Core.List.{List, reverse};
 ghost use mathlib.Core.Path.{_≡_};
-ghost use Prim.Native.Nat.{min};
-ghost use Rattle.records.specs.Ledger.{blank};
 ghost use Rattle.records.specs.Totals.{noTotals};
-ghost use Rattle.report.specs.Report.{judgedList};
-ghost use Rattle.ledger.specs.Books.{verdicts};
-ghost use Rattle.verdict.specs.Judge.{judged, lines, reportOf};
-ghost use Rattle.verdict.specs.Reply.{replyOf, replied, roomAfter, ranTo};
+ghost use Rattle.book.specs.Book.{judgedIn};
+ghost use Rattle.verdict.specs.Judge.{judged, reportOf};
+ghost use Rattle.verdict.specs.Reply.{replyOf, replied, roomAfter};
+ghost use Rattle.verdict.specs.Pass.{comingOf, comesTo, taken, wordsAfter, isOver, recordOf, ranTo, endsIn, passed, passes};
+use book::WORDS;
 use history::Line;
-use ledger::Counts;
 use ledger::Taken;
 use ledger::take;
-use reader::next_line;
+use reader::Reader;
+use reader::next;
+use records::Record;
 use records::Totals;
 use report::Written;
 use report::write_report;
@@ -29,19 +31,20 @@ pub enum Answer {
     Refused(Refusal, u32),
 }
 
-// What the pass over the lines comes to: the counts of the columns and the totals, or a refusal and its line.
+// What the pass over the lines comes to: the totals, or a refusal and its line. The verdicts stand in the memory.
 enum Ran {
-    Done(Counts, Totals),
+    Done(Totals),
+    Refused(Refusal, u32),
+}
+
+// What a line comes to: a record, the history's end, or a refusal and its line.
+enum Came {
+    Record(Record),
+    End,
     Refused(Refusal, u32),
 }
 
 const LAST_LINE: u32 = limits::LINES as u32;
-
-const NOTHING: Counts = Counts {
-    rows: 0,
-    seens: 0,
-    judged: 0,
-};
 
 const NO_TOTALS: Totals = Totals {
     started: 0,
@@ -58,123 +61,105 @@ pub fn judge(text: &[u8], room: &mut [u8]) -> Answer
     if limits::HISTORY < text.len() {
         return Answer::Refused(Refusal::HistoryTooLong, 0);
     }
-    let mut names = [0u32; limits::TRANSACTIONS];
-    let mut starts = [0u32; limits::TRANSACTIONS];
-    let mut ends = [0u32; limits::TRANSACTIONS];
-    let mut words = [0u64; limits::TRANSACTIONS];
-    let mut k1s = [0u16; limits::TRANSACTIONS];
-    let mut k2s = [0u16; limits::TRANSACTIONS];
-    let mut k3s = [0u16; limits::TRANSACTIONS];
-    let mut lasts = [0u32; limits::TRANSACTIONS];
-    let mut seen_keys = [0u8; limits::LINES];
-    let mut seen_lines = [0u32; limits::LINES];
-    let mut seen_befores = [0u32; limits::LINES];
-    let mut judged_names = [0u32; limits::TRANSACTIONS];
-    let mut judged_verdicts = [0u8; limits::TRANSACTIONS];
-    match run(
-        text,
-        &mut names,
-        &mut starts,
-        &mut ends,
-        &mut words,
-        &mut k1s,
-        &mut k2s,
-        &mut k3s,
-        &mut lasts,
-        &mut seen_keys,
-        &mut seen_lines,
-        &mut seen_befores,
-        &mut judged_names,
-        &mut judged_verdicts,
-    ) {
+    let mut memory = [0u64; WORDS];
+    match run(text, &mut memory) {
         Ran::Refused(f, line) => Answer::Refused(f, line),
-        Ran::Done(counts, totals) => {
-            finish(room, &judged_names, &judged_verdicts, counts.judged, totals)
-        }
+        Ran::Done(totals) => finish(room, &memory, totals),
     }
 }
 
-fn finish(
-    room: &mut [u8],
-    names: &[u32; limits::TRANSACTIONS],
-    codes: &[u8; limits::TRANSACTIONS],
-    count: usize,
-    totals: Totals,
-) -> Answer
-    ensures reply { λ r. ⌜ replyOf r ≡ replied (judged (judgedList (now (names .entry)) (now (codes .entry)) (min count 512)) totals) (now (room .entry)) ⌝ }
-    ensures buffer { λ _. ⌜ now (room .exit) ≡ roomAfter (judged (judgedList (now (names .entry)) (now (codes .entry)) (min count 512)) totals) (now (room .entry)) ⌝ }
+fn finish(room: &mut [u8], memory: &[u64; WORDS], totals: Totals) -> Answer
+    ensures reply { λ r. ⌜ replyOf r ≡ replied (judged (reverse (judgedIn (now (memory .entry)))) totals) (now (room .entry)) ⌝ }
+    ensures buffer { λ _. ⌜ now (room .exit) ≡ roomAfter (judged (reverse (judgedIn (now (memory .entry)))) totals) (now (room .entry)) ⌝ }
 {
-    match write_report(room, names, codes, count, totals) {
+    match write_report(room, memory, totals) {
         Written::Bytes(n) => Answer::Bytes(n),
         Written::Refused(f) => Answer::Refused(f, 0),
     }
 }
 
-// The lines from the first on. The columns may hold anything before: the counts begin at 0.
-fn run(
-    text: &[u8],
-    names: &mut [u32; limits::TRANSACTIONS],
-    starts: &mut [u32; limits::TRANSACTIONS],
-    ends: &mut [u32; limits::TRANSACTIONS],
-    words: &mut [u64; limits::TRANSACTIONS],
-    k1s: &mut [u16; limits::TRANSACTIONS],
-    k2s: &mut [u16; limits::TRANSACTIONS],
-    k3s: &mut [u16; limits::TRANSACTIONS],
-    lasts: &mut [u32; limits::TRANSACTIONS],
-    seen_keys: &mut [u8; limits::LINES],
-    seen_lines: &mut [u32; limits::LINES],
-    seen_befores: &mut [u32; limits::LINES],
-    judged_names: &mut [u32; limits::TRANSACTIONS],
-    judged_verdicts: &mut [u8; limits::TRANSACTIONS],
-) -> Ran
-    ensures { λ r. ⌜ ranTo r (verdicts (now («judged_names» .exit)) (now («judged_verdicts» .exit))) ≡ lines 4096 (now (text .entry)) 0 1 blank noTotals ⌝ }
+// The lines from the first on, and the memory as it is lent. One reader goes from the first line to the last, and the totals are the ones that are
+// handed over at the end: both are lent to the functions that move them, so this is proved by hand.
+fn run(text: &[u8], memory: &mut [u64; WORDS]) -> Ran
+    ensures { λ r. ⌜ passed (ranTo r (now (memory .exit))) (now (memory .exit)) ≡ passes (now (text .entry)) 0 1 noTotals (now (memory .entry)) ⌝ }
 {
-    let mut counts = NOTHING;
+    let mut reader = Reader { text, at: 0 };
     let mut totals = NO_TOTALS;
-    let mut at = 0;
     let mut line = 1;
-    while line <= LAST_LINE {
-        match next_line(text, at) {
-            Line::Bad => {
-                return Ran::Refused(Refusal::NotARecord, line);
+    loop {
+        let l = next(&mut reader);
+        let c = came(line, l);
+        let k = take_line(memory, line, c);
+        if finished(k) {
+            return ran_to(k, totals);
+        }
+        raise(&mut totals, record_of(k));
+        line += 1;
+    }
+}
+
+// 14 before 13.
+fn came(line: u32, l: Line) -> Came
+    ensures { λ r. ⌜ comingOf r ≡ comesTo line l ⌝ }
+{
+    match l {
+        Line::End => Came::End,
+        Line::Bad => {
+            if LAST_LINE < line {
+                return Came::Refused(Refusal::TooManyLines, line);
             }
-            Line::End => {
-                return Ran::Done(counts, totals);
+            Came::Refused(Refusal::NotARecord, line)
+        }
+        Line::Taken(e, _) => {
+            if LAST_LINE < line {
+                return Came::Refused(Refusal::TooManyLines, line);
             }
-            Line::Taken(e, next) => {
-                match take(
-                    names,
-                    starts,
-                    ends,
-                    words,
-                    k1s,
-                    k2s,
-                    k3s,
-                    lasts,
-                    seen_keys,
-                    seen_lines,
-                    seen_befores,
-                    judged_names,
-                    judged_verdicts,
-                    counts,
-                    line,
-                    e,
-                ) {
-                    Taken::Refused(f) => {
-                        return Ran::Refused(f, line);
-                    }
-                    Taken::Went(k) => {
-                        counts = k;
-                        totals = raise(totals, e);
-                        at = next;
-                        line += 1;
-                    }
-                }
-            }
+            Came::Record(e)
         }
     }
-    if at < text.len() {
-        return Ran::Refused(Refusal::TooManyLines, line);
+}
+
+// A record goes into the ledger, which may refuse it.
+fn take_line(memory: &mut [u64; WORDS], line: u32, c: Came) -> Came
+    ensures reply { λ r. ⌜ comingOf r ≡ taken (now (memory .entry)) line (comingOf c) ⌝ }
+    ensures memory { λ _. ⌜ now (memory .exit) ≡ wordsAfter (now (memory .entry)) line (comingOf c) ⌝ }
+{
+    match c {
+        Came::Record(e) => match take(memory, line, e) {
+            Taken::Refused(f) => Came::Refused(f, line),
+            Taken::Went => Came::Record(e),
+        },
+        Came::End => Came::End,
+        Came::Refused(f, n) => Came::Refused(f, n),
     }
-    Ran::Done(counts, totals)
+}
+
+fn finished(k: Came) -> bool
+    ensures { λ r. ⌜ r ≡ isOver (comingOf k) ⌝ }
+{
+    match k {
+        Came::Record(_) => false,
+        Came::End => true,
+        Came::Refused(_, _) => true,
+    }
+}
+
+fn ran_to(k: Came, totals: Totals) -> Ran
+    ensures { λ r. ⌜ ((ws : List ℕ) → ranTo r ws ≡ endsIn (comingOf k) totals ws) ⌝ }
+{
+    match k {
+        Came::Record(_) => Ran::Done(totals),
+        Came::End => Ran::Done(totals),
+        Came::Refused(f, n) => Ran::Refused(f, n),
+    }
+}
+
+fn record_of(k: Came) -> Record
+    ensures { λ r. ⌜ r ≡ recordOf (comingOf k) ⌝ }
+{
+    match k {
+        Came::Record(e) => e,
+        Came::End => Record::Start(0),
+        Came::Refused(_, n) => Record::Start(n),
+    }
 }
