@@ -28,15 +28,15 @@ module _ (ws : List ℕ) where
   pub load-bounds : (n a b c : ℕ) → 0 < n → n - 1 < 512 → a ≡ getD ws (k1sFrom + (n - 1)) 0 % 65536 → b ≡ getD ws (k2sFrom + (n - 1)) 0 % 65536
       → c ≡ getD ws (k3sFrom + (n - 1)) 0 % 65536
       → _≡_ {A = Row}
-        (record {
-          name = getD ws (namesFrom + (n - 1)) 0;
-          start = getD ws (startsFrom + (n - 1)) 0;
-          end = getD ws (endsFrom + (n - 1)) 0;
-          keys = getD ws (keysFrom + (n - 1)) 0;
-          bounds = record { k1 = a; k2 = b; k3 = c };
-          last = getD ws (lastsFrom + (n - 1)) 0;
-        })
-        (rowLoaded ws n)
+      (record {
+        name = getD ws (namesFrom + (n - 1)) 0;
+        start = getD ws (startsFrom + (n - 1)) 0;
+        end = getD ws (endsFrom + (n - 1)) 0;
+        keys = getD ws (keysFrom + (n - 1)) 0;
+        bounds = record { k1 = a; k2 = b; k3 = c };
+        last = getD ws (lastsFrom + (n - 1)) 0;
+      })
+      (rowLoaded ws n)
   load-bounds n a b c h k e f g = rw (e, f, g) (load-at n h k)
 
   pub load-past : (n : ℕ) {r : Row} → 0 < n → 512 ≤ n - 1 → r ≡ noRow → r ≡ rowLoaded ws n
