@@ -1,8 +1,8 @@
 -- The lines of the output, put one behind the other.
-use Prim.Native.Nat.{ℕ, zero, suc, _+_, _≤_}
+use Prim.Native.Nat.{ℕ, _+_, _≤_}
 use native.Mathlib.Numerals.{add-one}
 use native.Mathlib.Omega.{arith}
-use mathlib.Core.Path.{_≡_, refl, sym, ap, _∙_, subst}
+use mathlib.Core.Path.{_≡_, sym, ap, _∙_, subst}
 use mathlib.Core.List.{List, [], _∷_, _++_, reverse, reverse-cons}
 use lib.ListN.{length, length-reverse}
 use Rattle.decimal.specs.Text.{decimal, joined}
@@ -13,6 +13,7 @@ use Rattle.records.proofs.Order.{verdict-past}
 use Rattle.records.specs.declared.Totals.{Totals}
 use Rattle.records.specs.declared.Verdict.the-variants.{WC}
 use Rattle.book.specs.Book.{judgedAt, judgedOf}
+use Rattle.book.proofs.Laws.{judged-length}
 use Rattle.report.specs.Report.{spacedLine, judgeWord, totalWord, refusedWord, verdictWord, headLine, verdictLine, verdictLines, totalLine, reportText, refusedText}
 
 -- ---- a line, field by field
@@ -56,14 +57,6 @@ word-last code h = ap verdictWord (verdict-past code h)
 
 -- the first n verdicts in the memory, the oldest first
 module _ (ws : List ℕ) where
-  judged-count : (n : ℕ) → length (judgedOf ws n) ≡ n
-  unfolding judgedOf
-  judged-count zero = refl
-  judged-count (suc n) = ap suc (judged-count n)
-
-  judged-length : (n : ℕ) → length (reverse (judgedOf ws n)) ≡ n
-  judged-length n = length-reverse (judgedOf ws n) ∙ judged-count n
-
   judged-more : (n : ℕ) → reverse (judgedOf ws (n + 1)) ≡ reverse (judgedOf ws n) ++ (judgedAt ws n ∷ [])
   unfolding judgedOf
   judged-more n = ap (λ (k : ℕ). reverse (judgedOf ws k)) (add-one n) ∙ reverse-cons (judgedAt ws n) (judgedOf ws n)
@@ -87,5 +80,5 @@ module _ (ws : List ℕ) where
   unfolding reportText
   report-put {b = b} {c = c} {e = e} {x = x} {n = n} {r = r} t f p q s =
       let all : Puts b e 0 (headLine (length (reverse (judgedOf ws n))) ++ verdictLines (reverse (judgedOf ws n)) ++ totalLine t) r =
-      puts-then (puts-then (subst (λ (k : ℕ). Puts b c 0 (headLine k) x) (sym (judged-length n)) p) q) s in
+      puts-then (puts-then (subst (λ (k : ℕ). Puts b c 0 (headLine k) x) (sym (length-reverse (judgedOf ws n) ∙ judged-length ws n)) p) q) s in
       subst (λ (k : ℕ). Puts b e 0 (headLine (length (reverse (judgedOf ws k))) ++ verdictLines (reverse (judgedOf ws k)) ++ totalLine t) r) f all

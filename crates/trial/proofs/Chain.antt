@@ -11,6 +11,7 @@ use Rattle.records.specs.Ledger.{chain}
 use Rattle.records.specs.declared.Seen.{Seen}
 use Rattle.book.specs.Layout.{seenBeforesFrom, seenLinesFrom}
 use Rattle.book.specs.Book.{seenAt, seensOf}
+use Rattle.book.proofs.Laws.{seens-length}
 use Rattle.trial.specs.Trial.{among, latestOf, leastOf, rankOf}
 
 pub among-le : (k n a : ℕ) → a ≡ among k n → a ≤ n
@@ -30,16 +31,11 @@ under : (k n : ℕ) → k ≤ suc n → (k ≡ suc n → ⊥) → k ≤ n
 under k n h f = omega arith
 
 module _ (ws : List ℕ) where
-  pub seens-length : (n : ℕ) → length (seensOf ws n) ≡ n
-  unfolding seensOf
-  seens-length zero = refl
-  seens-length (suc n) = ap suc (seens-length n)
-
   -- a number past the last read, or 0, is no read
   chain-past : (n k : ℕ) → n < k → chain (seensOf ws n) k ≡ []
   unfolding chain seensOf
   chain-past zero k h = refl
-  chain-past (suc n) k h = rw (seens-length n, ne-eqb k (suc n) (λ e. omega arith)) (chain-past n k (omega arith))
+  chain-past (suc n) k h = rw (seens-length ws n, ne-eqb k (suc n) (λ e. omega arith)) (chain-past n k (omega arith))
 
   chain-none : (n : ℕ) → chain (seensOf ws n) 0 ≡ []
   unfolding chain seensOf
@@ -54,7 +50,7 @@ module _ (ws : List ℕ) where
     where
       go : (b : Bool) → eqb k (suc n) ≡ b → (k ≤ n → chain (seensOf ws n) k ≡ chain (seensOf ws k) k) → chain (seensOf ws (suc n)) k ≡ chain (seensOf ws k) k
       go true e below = let z : k ≡ suc n = eqb-true k (suc n) e in rw z
-      go false e below = rw (seens-length n, e) (below (under k n h (eqb-false k (suc n) e)))
+      go false e below = rw (seens-length ws n, e) (below (under k n h (eqb-false k (suc n) e)))
 
   pub chain-among : (n k a : ℕ) → a ≡ among k n → chain (seensOf ws n) k ≡ chain (seensOf ws a) a
   unfolding among
@@ -68,7 +64,7 @@ module _ (ws : List ℕ) where
   chain-step : (i b : ℕ) → b ≡ among (getD ws (seenBeforesFrom + i) 0) i → chain (seensOf ws (suc i)) (suc i) ≡ seenAt ws i ∷ chain (seensOf ws b) b
   unfolding chain seensOf
   chain-step i b e =
-      rw (seens-length i, eq-eqb (suc i) (suc i) refl) (ap (λ (l : List Seen). seenAt ws i ∷ l) (chain-among i (getD ws (seenBeforesFrom + i) 0) b e))
+      rw (seens-length ws i, eq-eqb (suc i) (suc i) refl) (ap (λ (l : List Seen). seenAt ws i ∷ l) (chain-among i (getD ws (seenBeforesFrom + i) 0) b e))
 
   pub chain-back : (a b : ℕ) → 0 < a → b ≡ among (getD ws (seenBeforesFrom + (a - 1)) 0) (a - 1)
       → chain (seensOf ws a) a ≡ seenAt ws (a - 1) ∷ chain (seensOf ws b) b
