@@ -61,14 +61,28 @@ stored-after : (ms : List ℕ) → length ms ≡ wordCount → {l : Ledger} → 
     → ledgerOf (rowStored ms (placeOf (l .rows) x - 1) q) ≡ record { rows = become (l .rows) x q; seens = l .seens; judged = l .judged }
 stored-after ms whole e =
     rw (← e)
-    (λ x q f h. let i : ℕ = placeOf (rowsIn ms) x - 1 in
-    stored-ledger ms i q (become (rowsIn ms) x q) (rw (stored-row-count ms i q) (stored-become ms whole x q f (rowCount ms) (omega arith) (placeOf (rowsIn ms) x) refl h)))
+    (λ x q f h. let p : ℕ = placeOf (rowsIn ms) x in
+    stored-ledger ms (p - 1) q (become (rowsIn ms) x q) (stored-become ms whole x q f p h refl))
 
 -- a row that is open has a number
 numbered : (ws : List ℕ) (p : ℕ) → isOpen (rowLoaded ws p) ≡ true → 0 < p
 unfolding rowLoaded
 numbered ws zero h = absurd (false≢true h)
 numbered ws (suc p) h = omega arith
+
+-- the words after a start, and after another record, where they stand for what is meant
+module _ (ws us : List ℕ) where
+  came-begun : (m : Ledger) (a c : Bool) → (c ≡ false → ledgerOf us ≡ m)
+      → cameTo (replyTo (cond a (refused 15) (cond c (refused 16) (went m)))) (onReply (replyTo (cond a (refused 15) (cond c (refused 16) (went m)))) ws us)
+      ≡ cond a (refused 15) (cond c (refused 16) (went m))
+  came-begun m true c h = refl
+  came-begun m false true h = refl
+  came-begun m false false h = ap went (h refl)
+
+  came-moved : (l m : Ledger) (o : Bool) → (o ≡ true → ledgerOf us ≡ m)
+      → cameTo (replyTo (cond o (went l) (refused 15))) (onReply (replyTo (cond o (went l) (refused 15))) ws us) ≡ cond o (went m) (refused 15)
+  came-moved l m true h = ap went (h refl)
+  came-moved l m false h = refl
 
 module _ (ws : List ℕ) (line : ℕ) where
   -- what a record can do to the words, whatever is asked of them
@@ -139,21 +153,10 @@ module _ (ws : List ℕ) (line : ℕ) (whole : length ws ≡ wordCount) where
 
   -- a start
   begins : (t : ℕ) → cameTo (replyTo (begun line t (ledgerOf ws))) (onReply (replyTo (begun line t (ledgerOf ws))) ws (rowAdded ws (freshRow line t))) ≡ begun line t (ledgerOf ws)
-  begins t = rw (rows-length ws (rowCount ws)) (go (any (named t) (rowsIn ws)) (leb 512 (rowCount ws)) refl)
-    where
-      go : (a c : Bool) → leb 512 (rowCount ws) ≡ c
-          → cameTo (replyTo (cond a (refused 15) (cond c (refused 16) (went (record { rows = freshRow line t ∷ rowsIn ws; seens = seensIn ws; judged = judgedIn ws })))))
-          (onReply (replyTo (cond a (refused 15) (cond c (refused 16) (went (record { rows = freshRow line t ∷ rowsIn ws; seens = seensIn ws; judged = judgedIn ws }))))) ws (rowAdded ws (freshRow line t)))
-          ≡ cond a (refused 15) (cond c (refused 16) (went (record { rows = freshRow line t ∷ rowsIn ws; seens = seensIn ws; judged = judgedIn ws })))
-      go true c e = refl
-      go false true e = refl
-      go false false e =
-          ap went (row-added-ledger ws (freshRow line t) whole (omega (arith, leb-false 512 (rowCount ws) e)) (record { k1 = omega arith; k2 = omega arith; k3 = omega arith }))
-
-  came : (o : Bool) (l m : Ledger) (us : List ℕ) → (o ≡ true → ledgerOf us ≡ m)
-      → cameTo (replyTo (cond o (went l) (refused 15))) (onReply (replyTo (cond o (went l) (refused 15))) ws us) ≡ cond o (went m) (refused 15)
-  came true l m us h = ap went (h refl)
-  came false l m us h = refl
+  begins t =
+      rw (rows-length ws (rowCount ws))
+      (came-begun ws (rowAdded ws (freshRow line t)) _ (any (named t) (rowsIn ws)) (leb 512 (rowCount ws))
+      (λ e. row-added-ledger ws (freshRow line t) whole (omega (arith, leb-false 512 (rowCount ws) e)) (record { k1 = omega arith; k2 = omega arith; k3 = omega arith })))
 
   -- any other record; where its row is open there is room for a verdict
   moves : (e : Record) → readCount ws < 4096 → (isOpen (rowOf (rowsIn ws) (nameOf e)) ≡ true → verdictCount ws < 512) → Bounded e
@@ -163,9 +166,9 @@ module _ (ws : List ℕ) (line : ℕ) (whole : length ws ≡ wordCount) where
   moves e reads verdicts b =
       let r : Row = rowOf (rowsIn ws) (nameOf e) in
       let p : ℕ = placeOf (rowsIn ws) (nameOf e) in
-      let of : r ≡ rowLoaded ws p = row-of ws (nameOf e) (rowCount ws) (omega arith) in
+      let of : r ≡ rowLoaded ws p = row-of ws (nameOf e) in
       rw (tidy-name e, seens-length ws (readCount ws))
-      (came (isOpen r) _ (onward e r) (settled ws line e (p - 1) r) (λ o. settled-ledger reads (verdicts o) r (subst Fits (sym of) (fits-loaded ws p)) e b (numbered ws p (sym (ap isOpen of) ∙ o))))
+      (came-moved ws (settled ws line e (p - 1) r) _ (onward e r) (isOpen r) (λ o. settled-ledger reads (verdicts o) r (subst Fits (sym of) (fits-loaded ws p)) e b (numbered ws p (sym (ap isOpen of) ∙ o))))
 
   -- the memory after a record stands for the step of the meaning
   pub ledger-after : readCount ws < 4096 → (e : Record) → (isOpen (rowOf (rowsIn ws) (nameOf e)) ≡ true → verdictCount ws < 512) → Bounded e

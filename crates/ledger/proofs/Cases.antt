@@ -97,7 +97,7 @@ module _ (ws : List ℕ) (line : ℕ) (e : Record) {b : Bool} (f : b ≡ starts 
 
   module _ {name number : ℕ} {row : Row} (g : b ≡ false) (n : name ≡ nameOf e) (p : number ≡ placeOf (rowsIn ws) name) (w : row ≡ rowLoaded ws number) where
     row-is : rowOf (rowsIn ws) (nameOf e) ≡ row
-    row-is = rw (w, p, n) (row-of ws (nameOf e) (rowCount ws) (omega arith))
+    row-is = rw (w, p, n) (row-of ws (nameOf e))
 
     pub take-open : row .end ≡ 0 → {us : List ℕ} {place : ℕ} → place ≡ number - 1 → us ≡ settled ws line e place row
         → (wentOn ≡ replyTo (lineStep line e (ledgerOf ws))) × (us ≡ booked ws line e)
