@@ -81,12 +81,6 @@ fn keep(line: &mut [u8], n: usize, b: u8) {
     }
 }
 
-fn counted(p: Table, read: usize) -> Table {
-    let mut q = p;
-    q.read = read;
-    q
-}
-
 // A line past its limit stays past it.
 fn longer(n: usize) -> usize {
     if n < LINE {
@@ -100,12 +94,8 @@ fn roomy(out: &mut [u8], written: usize) -> usize {
     if written < OUTPUT - REPLY {
         return written;
     }
-    flush(out, written);
-    0
-}
-
-fn flush(out: &[u8], written: usize) {
     io::write_all(STDOUT_FILENO, front(out, written));
+    0
 }
 
 fn feed_all(
@@ -123,7 +113,7 @@ fn feed_all(
         if f.ended {
             q = play_line(line, memory, out, q, f.read);
         } else {
-            q = counted(q, f.read);
+            q.read = f.read;
         }
     }
     q
@@ -175,5 +165,5 @@ fn main() {
             more = t.more;
         }
     }
-    flush(&out, p.written);
+    io::write_all(STDOUT_FILENO, front(&out, p.written));
 }

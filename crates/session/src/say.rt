@@ -101,7 +101,7 @@ fn put_words(out: &mut [u8], at: usize, word: u64, rule: u64) -> usize {
     if rule == 0 {
         return a;
     }
-    let b = put_one(out, a, b' ');
+    let b = end_of(decimal::put_byte(out, a, b' '), a);
     put_letters(out, b, rule)
 }
 
@@ -113,8 +113,8 @@ fn put_numbers(out: &mut [u8], at: usize, count: u32, a: u64, b: u64, c: u64) ->
 
 fn put_next(out: &mut [u8], at: usize, there: bool, n: u64) -> usize {
     if there {
-        let a = put_one(out, at, b' ');
-        return put_number(out, a, n);
+        let a = end_of(decimal::put_byte(out, at, b' '), at);
+        return end_of(decimal::put_natural(out, a, n), a);
     }
     at
 }
@@ -122,36 +122,16 @@ fn put_next(out: &mut [u8], at: usize, there: bool, n: u64) -> usize {
 // The value, where there is one, and the line's end.
 fn put_last(out: &mut [u8], at: usize, there: bool, n: i32) -> usize {
     if there {
-        let a = put_one(out, at, b' ');
-        let b = put_value(out, a, n);
-        return put_one(out, b, b'\n');
+        let a = end_of(decimal::put_byte(out, at, b' '), at);
+        let b = end_of(decimal::put_signed(out, a, n), a);
+        return end_of(decimal::put_byte(out, b, b'\n'), b);
     }
-    put_one(out, at, b'\n')
+    end_of(decimal::put_byte(out, at, b'\n'), at)
 }
 
-pub(crate) fn put_word(out: &mut [u8], at: usize, word: &[u8]) -> usize {
-    let Put::Next(e) = decimal::put_text(out, at, word) else {
-        return at;
-    };
-    e
-}
-
-pub(crate) fn put_one(out: &mut [u8], at: usize, b: u8) -> usize {
-    let Put::Next(e) = decimal::put_byte(out, at, b) else {
-        return at;
-    };
-    e
-}
-
-fn put_number(out: &mut [u8], at: usize, n: u64) -> usize {
-    let Put::Next(e) = decimal::put_natural(out, at, n) else {
-        return at;
-    };
-    e
-}
-
-fn put_value(out: &mut [u8], at: usize, n: i32) -> usize {
-    let Put::Next(e) = decimal::put_signed(out, at, n) else {
+// Where what was put ends; where it did not go in, where it was to begin.
+pub(crate) fn end_of(put: Put, at: usize) -> usize {
+    let Put::Next(e) = put else {
         return at;
     };
     e

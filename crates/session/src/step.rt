@@ -124,13 +124,7 @@ fn value(n: Natural) -> u32 {
     }
 }
 
-fn bound(n: u32) -> u16 {
-    if n < 65536 {
-        return n as u16;
-    }
-    0
-}
-
+// What stands behind the space of `take ` is the message.
 pub(crate) fn step_of(line: &[u8]) -> Step {
     let word = word_of(line);
     let letters = word.letters;
@@ -138,7 +132,10 @@ pub(crate) fn step_of(line: &[u8]) -> Step {
         return write_of(line);
     }
     if letters == TAKE {
-        return take_of(line);
+        if has(line, 4, b' ') {
+            return Step::Take;
+        }
+        return Step::Unknown;
     }
     numbered(letters, numbers_of(line, word.end))
 }
@@ -149,7 +146,12 @@ fn numbered(word: u64, n: Numbers) -> Step {
         0 => with_none(word),
         1 => with_one(word, n.a),
         2 => with_two(word, n.a, n.b),
-        3 => with_three(word, n.a, n.b, n.c),
+        3 => {
+            if word == NOTE {
+                return Step::Note(n.a, n.b, n.c);
+            }
+            Step::Unknown
+        }
         4 => with_four(word, n.a, n.b, n.c, n.d),
         _ => Step::Unknown,
     }
@@ -184,30 +186,15 @@ fn with_two(word: u64, a: u32, b: u32) -> Step {
     }
 }
 
-fn with_three(word: u64, a: u32, b: u32, c: u32) -> Step {
-    if word == NOTE {
-        return Step::Note(a, b, c);
-    }
-    Step::Unknown
-}
-
 fn with_four(word: u64, a: u32, b: u32, c: u32, d: u32) -> Step {
     if word == TUNE {
         if b < 65536 {
             if c < 65536 {
                 if d < 65536 {
-                    return Step::Tune(a, bound(b), bound(c), bound(d));
+                    return Step::Tune(a, b as u16, c as u16, d as u16);
                 }
             }
         }
-    }
-    Step::Unknown
-}
-
-// What stands behind the space is the message.
-fn take_of(line: &[u8]) -> Step {
-    if has(line, 4, b' ') {
-        return Step::Take;
     }
     Step::Unknown
 }

@@ -1,12 +1,11 @@
 // The table at which a session is played: the copy, and what is written and read so far, beside the master's memory; and what a step does.
-ghost use Prim.Native.Nat.{_≤_};
 use crate::ask::ask;
 use crate::ask::ask_compare;
 use crate::ask::ask_copy;
 use crate::say::Reply;
 use crate::say::alone;
+use crate::say::end_of;
 use crate::say::put_reply;
-use crate::say::put_word;
 use crate::say::refused;
 use crate::step::Step;
 use crate::step::step_of;
@@ -28,28 +27,25 @@ pub(crate) struct Table {
     pub(crate) read: usize,
 }
 
-fn said(p: Table, at: usize) -> Table {
-    let mut q = p;
-    q.written = at;
-    q
-}
-
-fn holding(p: Table, copy: Copy) -> Table {
-    let mut q = p;
-    q.copy = copy;
-    q
-}
-
 // A reply more.
 pub(crate) fn tell(out: &mut [u8], p: Table, r: Reply) -> Table {
-    said(p, put_reply(out, p.written, r))
+    let mut q = p;
+    q.written = put_reply(out, p.written, r);
+    q
 }
 
 pub(crate) fn play(line: &[u8], memory: &mut [u32; WORDS], out: &mut [u8], p: Table) -> Table {
     let step = step_of(line);
+    let mut q = p;
     match step {
-        Step::Message(s, room) => said(p, say_message(memory, out, p.written, Stamp(s), room)),
-        Step::Copy => tell(out, holding(p, Copy::fresh()), alone(COPY)),
+        Step::Message(s, room) => {
+            q.written = say_message(memory, out, p.written, Stamp(s), room);
+            q
+        }
+        Step::Copy => {
+            q.copy = Copy::fresh();
+            tell(out, q, alone(COPY))
+        }
         Step::Take => take(line, out, p),
         Step::Look(k) => tell(out, p, ask_copy(p.copy, k)),
         Step::Compare => tell(out, p, ask_compare(memory, p.copy)),
@@ -61,7 +57,8 @@ fn take(line: &[u8], out: &mut [u8], p: Table) -> Table {
     let taken = take_rest(line, p.copy);
     let answer = taken.answer;
     let copy = taken.copy;
-    let q = holding(p, copy);
+    let mut q = p;
+    q.copy = copy;
     match answer {
         TakeAnswer::Taken => tell(out, q, alone(TAKE)),
         TakeAnswer::Refused(f) => tell(out, q, refused(f)),
@@ -76,28 +73,13 @@ fn take_rest(line: &[u8], c: Copy) -> copy::Taken {
     c.take(line)
 }
 
-// The message line itself, as far as the lent room goes.
+// The message line itself, as far as the lent room goes. No message is longer than the reply's room, so more room changes nothing.
 fn say_message(memory: &[u32; WORDS], out: &mut [u8], at: usize, stamp: Stamp, room: u32) -> usize {
     let mut text = [0u8; REPLY];
-    let n = lent(room);
-    match post::send(memory, stamp, front_mut(&mut text, n)) {
-        MessageAnswer::Bytes(e) => put_text(out, at, &text, e),
+    match post::send(memory, stamp, front_mut(&mut text, room as usize)) {
+        MessageAnswer::Bytes(e) => end_of(decimal::put_text(out, at, front(&text, e)), at),
         MessageAnswer::Refused(f) => put_reply(out, at, refused(f)),
     }
-}
-
-// No message is longer than the reply's room, so more room changes nothing.
-fn lent(room: u32) -> usize
-    ensures { λ r. ⌜ r ≤ 512 ⌝ }
-{
-    if room < 512 {
-        return room as usize;
-    }
-    REPLY
-}
-
-fn put_text(out: &mut [u8], at: usize, text: &[u8], n: usize) -> usize {
-    put_word(out, at, front(text, n))
 }
 
 // The first n bytes, or all where there are fewer.

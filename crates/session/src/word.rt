@@ -1,6 +1,6 @@
 // The words of a session: the letters of a word are the digits of a number to the base 256, so that a word is a value.
 ghost use Prim.Native.Nat.{_≤_};
-use crate::say::put_one;
+use crate::say::end_of;
 
 pub(crate) const OPEN: u64 = 0x6f70656e;
 
@@ -84,22 +84,19 @@ pub(crate) fn put_letters(out: &mut [u8], at: usize, letters: u64) -> usize {
     let mut left: u32 = 8;
     while 0 < left {
         left -= 1;
-        to = put_letter(out, to, letter(letters, left));
+        to = put_letter(out, to, letters, left);
     }
     to
 }
 
 // A word's letter, counted from the last.
-fn letter(letters: u64, i: u32) -> u8 {
+fn put_letter(out: &mut [u8], at: usize, letters: u64, i: u32) -> usize {
     if i < 8 {
-        return ((letters >> (8 * i)) % 256) as u8;
+        let b = ((letters >> (8 * i)) % 256) as u8;
+        if b == 0 {
+            return at;
+        }
+        return end_of(decimal::put_byte(out, at, b), at);
     }
-    0
-}
-
-fn put_letter(out: &mut [u8], at: usize, b: u8) -> usize {
-    if b == 0 {
-        return at;
-    }
-    put_one(out, at, b)
+    at
 }

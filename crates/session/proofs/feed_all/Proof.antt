@@ -30,14 +30,11 @@ loop-less c = omega (arith, c .before .before .before .before .before .before .b
 loop-again : tie.Need-loop-again Inv-loop μ-loop
 loop-again c = (omega (arith, c .before .before .before .before .before .before .before .before .before .fill .ensures (c .before .before .before .before .before .before .before .before .before .before .before .loop-test .taken)), search needs)
 
-counted-requires : tie.Need-counted-requires Inv-loop μ-loop
-counted-requires c κs = search needs
-
 loop-less-2 : tie.Need-loop-less-2 Inv-loop μ-loop
-loop-less-2 c = omega (arith, c .before .before .before .before .fill .ensures (c .before .before .before .before .before .before .loop-test .taken))
+loop-less-2 c = omega (arith, c .before .before .before .fill .ensures (c .before .before .before .before .before .loop-test .taken))
 
 loop-again-2 : tie.Need-loop-again-2 Inv-loop μ-loop
-loop-again-2 c = (omega (arith, c .before .before .before .before .fill .ensures (c .before .before .before .before .before .before .loop-test .taken)), search needs)
+loop-again-2 c = (omega (arith, c .before .before .before .fill .ensures (c .before .before .before .before .before .loop-test .taken)), search needs)
 
 same-length : tie.Need-same-length Inv-loop μ-loop
 same-length c = search needs
@@ -59,7 +56,6 @@ feed-all-spec =
     play-line-requires
     loop-less
     loop-again
-    counted-requires
     loop-less-2
     loop-again-2
     same-length

@@ -53,11 +53,14 @@ loop-less-2 c = less _ _ (c .before .before .before .one-turn .result .more) (c 
 loop-again-2 : tie.Need-loop-again-2 Inv-loop μ-loop
 loop-again-2 c = search needs
 
-slice-aggregate-flush : tie.Need-slice-aggregate-flush Inv-loop μ-loop
-slice-aggregate-flush c = search needs
+slice-aggregate-front : tie.Need-slice-aggregate-front Inv-loop μ-loop
+slice-aggregate-front c = search needs
 
-flush-requires : tie.Need-flush-requires Inv-loop μ-loop
-flush-requires c κs = search needs
+front-requires : tie.Need-front-requires Inv-loop μ-loop
+front-requires c κs = search needs
+
+write-all-requires : tie.Need-write-all-requires Inv-loop μ-loop
+write-all-requires c κs = search needs
 
 returns : tie.Need-returns Inv-loop μ-loop
 returns c = search needs
@@ -79,6 +82,7 @@ main-spec =
     one-turn-requires
     loop-less-2
     loop-again-2
-    slice-aggregate-flush
-    flush-requires
+    slice-aggregate-front
+    front-requires
+    write-all-requires
     returns)

@@ -19,9 +19,6 @@ loop-holds c = (omega arith, refl)
 sub-left : tie.Need-sub-left Inv-loop μ-loop
 sub-left c = omega arith
 
-letter-requires : tie.Need-letter-requires Inv-loop μ-loop
-letter-requires c κs = search needs
-
 put-letter-requires : tie.Need-put-letter-requires Inv-loop μ-loop
 put-letter-requires c κs = search needs
 
@@ -45,7 +42,6 @@ put-letters-spec =
     μ-loop
     loop-holds
     sub-left
-    letter-requires
     put-letter-requires
     loop-less
     loop-again
