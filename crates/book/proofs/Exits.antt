@@ -1,5 +1,5 @@
 -- What each function of this crate answers or stores at each of its exits, over plain variables.
-use Prim.Native.Nat.{ℕ, zero, suc, _+_, _-_, _%_, _<_, _≤_}
+use Prim.Native.Nat.{ℕ, zero, suc, _+_, _-_, _/_, _%_, _<_, _≤_}
 use native.Mathlib.Omega.{arith}
 use native.Mathlib.Numerals.{add-one}
 use mathlib.Core.Path.{_≡_, refl, sym, _∙_}
@@ -11,8 +11,8 @@ use Rattle.records.specs.Order.{codeOf}
 use Rattle.records.specs.declared.Judged.{Judged}
 use Rattle.records.specs.declared.Row.{Row}
 use Rattle.records.specs.declared.Seen.{Seen}
-use Rattle.book.specs.Layout.{endsFrom, judgedCodesFrom, judgedNamesFrom, k1sFrom, k2sFrom, k3sFrom, keysFrom, lastsFrom, namesFrom, seenBeforesFrom, seenKeysFrom, seenLinesFrom, startsFrom}
-use Rattle.book.specs.Book.{rowAt, rowCount, readCount, verdictCount, rowLoaded, rowStored, rowAdded, seenAdded, judgedAdded}
+use Rattle.book.specs.Layout.{endsFrom, judgedCodesFrom, judgedNamesFrom, k1sFrom, k2sFrom, k3sFrom, highsFrom, lowsFrom, lastsFrom, namesFrom, seenBeforesFrom, seenKeysFrom, seenLinesFrom, startsFrom}
+use Rattle.book.specs.Book.{keysOf, rowAt, rowCount, readCount, verdictCount, rowLoaded, rowStored, rowAdded, seenAdded, judgedAdded}
 
 module _ (ws : List ℕ) where
   -- the row of a number: 0, that of a place, one past the last place
@@ -25,19 +25,19 @@ module _ (ws : List ℕ) where
   load-at zero h k = absurd (omega arith)
   load-at (suc i) h k = let e : suc i - 1 ≡ i = omega arith in rw (e, lt-ltb i 512 (omega arith))
 
-  pub load-bounds : (n a b c : ℕ) → 0 < n → n - 1 < 512 → a ≡ getD ws (k1sFrom + (n - 1)) 0 % 65536 → b ≡ getD ws (k2sFrom + (n - 1)) 0 % 65536
+  pub load-bounds : (n w a b c : ℕ) → 0 < n → n - 1 < 512 → w ≡ keysOf (getD ws (lowsFrom + (n - 1)) 0) (getD ws (highsFrom + (n - 1)) 0) → a ≡ getD ws (k1sFrom + (n - 1)) 0 % 65536 → b ≡ getD ws (k2sFrom + (n - 1)) 0 % 65536
       → c ≡ getD ws (k3sFrom + (n - 1)) 0 % 65536
       → _≡_ {A = Row}
       (record {
         name = getD ws (namesFrom + (n - 1)) 0;
         start = getD ws (startsFrom + (n - 1)) 0;
         end = getD ws (endsFrom + (n - 1)) 0;
-        keys = getD ws (keysFrom + (n - 1)) 0;
+        keys = w;
         bounds = record { k1 = a; k2 = b; k3 = c };
         last = getD ws (lastsFrom + (n - 1)) 0;
       })
       (rowLoaded ws n)
-  load-bounds n a b c h k e f g = rw (e, f, g) (load-at n h k)
+  load-bounds n w a b c h k d e f g = rw (d, e, f, g) (load-at n h k)
 
   pub load-past : (n : ℕ) {r : Row} → 0 < n → 512 ≤ n - 1 → r ≡ noRow → r ≡ rowLoaded ws n
   unfolding rowLoaded
@@ -46,11 +46,11 @@ module _ (ws : List ℕ) where
 
   -- a row at a place, and past the last one
   module _ (i : ℕ) (r : Row) where
-    pub store-at : (a b c : ℕ) → i < 512 → a ≡ r .bounds .k1 → b ≡ r .bounds .k2 → c ≡ r .bounds .k3
-        → set (set (set (set (set (set (set (set ws (namesFrom + i) (r .name)) (startsFrom + i) (r .start)) (endsFrom + i) (r .end)) (keysFrom + i) (r .keys)) (k1sFrom + i) a) (k2sFrom + i) b) (k3sFrom + i) c) (lastsFrom + i) (r .last)
+    pub store-at : (l m a b c : ℕ) → i < 512 → l ≡ r .keys % 4294967296 → m ≡ r .keys / 4294967296 → a ≡ r .bounds .k1 → b ≡ r .bounds .k2 → c ≡ r .bounds .k3
+        → set (set (set (set (set (set (set (set (set ws (namesFrom + i) (r .name)) (startsFrom + i) (r .start)) (endsFrom + i) (r .end)) (lowsFrom + i) l) (highsFrom + i) m) (k1sFrom + i) a) (k2sFrom + i) b) (k3sFrom + i) c) (lastsFrom + i) (r .last)
         ≡ rowStored ws i r
     unfolding rowStored
-    store-at a b c h e f g = rw (lt-ltb i 512 h, e, f, g)
+    store-at l m a b c h p q e f g = rw (lt-ltb i 512 h, p, q, e, f, g)
 
     pub store-past : 512 ≤ i → rowStored ws i r ≡ ws
     unfolding rowStored

@@ -1,5 +1,5 @@
 -- Which words a row, a recorded read and a verdict depend on, and which words each store changes.
-use Prim.Native.Nat.{ℕ, zero, suc, _+_, _*_, _<_, _≤_}
+use Prim.Native.Nat.{ℕ, zero, suc, _+_, _*_, _/_, _%_, _<_, _≤_}
 use native.Mathlib.Omega.{arith}
 use native.Mathlib.Nat.{mod-eq-of-lt}
 use mathlib.Core.Path.{_≡_, refl, _∙_}
@@ -11,16 +11,16 @@ use Rattle.records.proofs.Order.{verdict-back}
 use Rattle.records.specs.declared.Judged.{Judged}
 use Rattle.records.specs.declared.Row.{Row}
 use Rattle.records.specs.declared.Seen.{Seen}
-use Rattle.book.specs.Layout.{endsFrom, judgedCodesFrom, judgedNamesFrom, k1sFrom, k2sFrom, k3sFrom, keysFrom, lastsFrom, namesFrom, seenBeforesFrom, seenKeysFrom, seenLinesFrom, startsFrom, wordCount}
-use Rattle.book.specs.Book.{rowAt, rowsOf, seenAt, seensOf, judgedAt, judgedOf, Fits, rowWords, seenWords, judgedWords}
+use Rattle.book.specs.Layout.{endsFrom, judgedCodesFrom, judgedNamesFrom, k1sFrom, k2sFrom, k3sFrom, highsFrom, lowsFrom, lastsFrom, namesFrom, seenBeforesFrom, seenKeysFrom, seenLinesFrom, startsFrom, wordCount}
+use Rattle.book.specs.Book.{keysOf, rowAt, rowsOf, seenAt, seensOf, judgedAt, judgedOf, Fits, rowWords, seenWords, judgedWords}
 
 module _ (ws us : List ℕ) where
-  -- the rows depend on the words from 3 on, the recorded reads on those from 4,099 on, the verdicts on those from 16,387 on
+  -- the rows depend on the words from 3 on, the recorded reads on those from 4,611 on, the verdicts on those from 16,899 on
   module _ (same : (j : ℕ) → namesFrom ≤ j → j < seenKeysFrom → getD us j 0 ≡ getD ws j 0) where
     pub row-frame : (n : ℕ) → n < 512 → rowAt us n ≡ rowAt ws n
     row-frame n h =
         rw
-        (same (namesFrom + n) (omega arith) (omega arith), same (startsFrom + n) (omega arith) (omega arith), same (endsFrom + n) (omega arith) (omega arith), same (keysFrom + n) (omega arith) (omega arith), same (k1sFrom + n) (omega arith) (omega arith), same (k2sFrom + n) (omega arith) (omega arith), same (k3sFrom + n) (omega arith) (omega arith), same (lastsFrom + n) (omega arith) (omega arith))
+        (same (namesFrom + n) (omega arith) (omega arith), same (startsFrom + n) (omega arith) (omega arith), same (endsFrom + n) (omega arith) (omega arith), same (lowsFrom + n) (omega arith) (omega arith), same (highsFrom + n) (omega arith) (omega arith), same (k1sFrom + n) (omega arith) (omega arith), same (k2sFrom + n) (omega arith) (omega arith), same (k3sFrom + n) (omega arith) (omega arith), same (lastsFrom + n) (omega arith) (omega arith))
 
     pub rows-frame : (n : ℕ) → n ≤ 512 → rowsOf us n ≡ rowsOf ws n
     unfolding rowsOf
@@ -89,11 +89,14 @@ module _ (ws : List ℕ) (i : ℕ) (r : Row) where
   abbrev upto-ends : List ℕ
   upto-ends = set upto-starts (endsFrom + i) (r .end)
 
-  abbrev upto-keys : List ℕ
-  upto-keys = set upto-ends (keysFrom + i) (r .keys)
+  abbrev upto-lows : List ℕ
+  upto-lows = set upto-ends (lowsFrom + i) (r .keys % 4294967296)
+
+  abbrev upto-highs : List ℕ
+  upto-highs = set upto-lows (highsFrom + i) (r .keys / 4294967296)
 
   abbrev upto-k1s : List ℕ
-  upto-k1s = set upto-keys (k1sFrom + i) (r .bounds .k1)
+  upto-k1s = set upto-highs (k1sFrom + i) (r .bounds .k1)
 
   abbrev upto-k2s : List ℕ
   upto-k2s = set upto-k1s (k2sFrom + i) (r .bounds .k2)
@@ -102,54 +105,60 @@ module _ (ws : List ℕ) (i : ℕ) (r : Row) where
   upto-k3s = set upto-k2s (k3sFrom + i) (r .bounds .k3)
 
   -- a word that no later field is stored in
-  past-lasts : (j : ℕ) → ((k : ℕ) → 7 ≤ k → k < 8 → j ≡ namesFrom + 512 * k + i → ⊥) → getD (rowWords ws i r) j 0 ≡ getD (upto-k3s) j 0
-  past-lasts j h = getD-set-other (upto-k3s) (lastsFrom + i) j (r .last) 0 (λ e. h 7 (omega arith) (omega arith) (omega arith))
+  past-lasts : (j : ℕ) → ((k : ℕ) → 8 ≤ k → k < 9 → j ≡ namesFrom + 512 * k + i → ⊥) → getD (rowWords ws i r) j 0 ≡ getD upto-k3s j 0
+  past-lasts j h = getD-set-other upto-k3s (lastsFrom + i) j (r .last) 0 (λ e. h 8 (omega arith) (omega arith) (omega arith))
 
-  past-k3s : (j : ℕ) → ((k : ℕ) → 6 ≤ k → k < 8 → j ≡ namesFrom + 512 * k + i → ⊥) → getD (rowWords ws i r) j 0 ≡ getD (upto-k2s) j 0
-  past-k3s j h = (past-lasts j (λ k l m. h k (omega arith) m)) ∙ getD-set-other (upto-k2s) (k3sFrom + i) j (r .bounds .k3) 0 (λ e. h 6 (omega arith) (omega arith) (omega arith))
+  past-k3s : (j : ℕ) → ((k : ℕ) → 7 ≤ k → k < 9 → j ≡ namesFrom + 512 * k + i → ⊥) → getD (rowWords ws i r) j 0 ≡ getD upto-k2s j 0
+  past-k3s j h = past-lasts j (λ k l m. h k (omega arith) m) ∙ getD-set-other upto-k2s (k3sFrom + i) j (r .bounds .k3) 0 (λ e. h 7 (omega arith) (omega arith) (omega arith))
 
-  past-k2s : (j : ℕ) → ((k : ℕ) → 5 ≤ k → k < 8 → j ≡ namesFrom + 512 * k + i → ⊥) → getD (rowWords ws i r) j 0 ≡ getD (upto-k1s) j 0
-  past-k2s j h = (past-k3s j (λ k l m. h k (omega arith) m)) ∙ getD-set-other (upto-k1s) (k2sFrom + i) j (r .bounds .k2) 0 (λ e. h 5 (omega arith) (omega arith) (omega arith))
+  past-k2s : (j : ℕ) → ((k : ℕ) → 6 ≤ k → k < 9 → j ≡ namesFrom + 512 * k + i → ⊥) → getD (rowWords ws i r) j 0 ≡ getD upto-k1s j 0
+  past-k2s j h = past-k3s j (λ k l m. h k (omega arith) m) ∙ getD-set-other upto-k1s (k2sFrom + i) j (r .bounds .k2) 0 (λ e. h 6 (omega arith) (omega arith) (omega arith))
 
-  past-k1s : (j : ℕ) → ((k : ℕ) → 4 ≤ k → k < 8 → j ≡ namesFrom + 512 * k + i → ⊥) → getD (rowWords ws i r) j 0 ≡ getD (upto-keys) j 0
-  past-k1s j h = (past-k2s j (λ k l m. h k (omega arith) m)) ∙ getD-set-other (upto-keys) (k1sFrom + i) j (r .bounds .k1) 0 (λ e. h 4 (omega arith) (omega arith) (omega arith))
+  past-k1s : (j : ℕ) → ((k : ℕ) → 5 ≤ k → k < 9 → j ≡ namesFrom + 512 * k + i → ⊥) → getD (rowWords ws i r) j 0 ≡ getD upto-highs j 0
+  past-k1s j h = past-k2s j (λ k l m. h k (omega arith) m) ∙ getD-set-other upto-highs (k1sFrom + i) j (r .bounds .k1) 0 (λ e. h 5 (omega arith) (omega arith) (omega arith))
 
-  past-keys : (j : ℕ) → ((k : ℕ) → 3 ≤ k → k < 8 → j ≡ namesFrom + 512 * k + i → ⊥) → getD (rowWords ws i r) j 0 ≡ getD (upto-ends) j 0
-  past-keys j h = (past-k1s j (λ k l m. h k (omega arith) m)) ∙ getD-set-other (upto-ends) (keysFrom + i) j (r .keys) 0 (λ e. h 3 (omega arith) (omega arith) (omega arith))
+  past-highs : (j : ℕ) → ((k : ℕ) → 4 ≤ k → k < 9 → j ≡ namesFrom + 512 * k + i → ⊥) → getD (rowWords ws i r) j 0 ≡ getD upto-lows j 0
+  past-highs j h = past-k1s j (λ k l m. h k (omega arith) m) ∙ getD-set-other upto-lows (highsFrom + i) j (r .keys / 4294967296) 0 (λ e. h 4 (omega arith) (omega arith) (omega arith))
 
-  past-ends : (j : ℕ) → ((k : ℕ) → 2 ≤ k → k < 8 → j ≡ namesFrom + 512 * k + i → ⊥) → getD (rowWords ws i r) j 0 ≡ getD (upto-starts) j 0
-  past-ends j h = (past-keys j (λ k l m. h k (omega arith) m)) ∙ getD-set-other (upto-starts) (endsFrom + i) j (r .end) 0 (λ e. h 2 (omega arith) (omega arith) (omega arith))
+  past-lows : (j : ℕ) → ((k : ℕ) → 3 ≤ k → k < 9 → j ≡ namesFrom + 512 * k + i → ⊥) → getD (rowWords ws i r) j 0 ≡ getD upto-ends j 0
+  past-lows j h = past-highs j (λ k l m. h k (omega arith) m) ∙ getD-set-other upto-ends (lowsFrom + i) j (r .keys % 4294967296) 0 (λ e. h 3 (omega arith) (omega arith) (omega arith))
 
-  past-starts : (j : ℕ) → ((k : ℕ) → 1 ≤ k → k < 8 → j ≡ namesFrom + 512 * k + i → ⊥) → getD (rowWords ws i r) j 0 ≡ getD (upto-names) j 0
-  past-starts j h = (past-ends j (λ k l m. h k (omega arith) m)) ∙ getD-set-other (upto-names) (startsFrom + i) j (r .start) 0 (λ e. h 1 (omega arith) (omega arith) (omega arith))
+  past-ends : (j : ℕ) → ((k : ℕ) → 2 ≤ k → k < 9 → j ≡ namesFrom + 512 * k + i → ⊥) → getD (rowWords ws i r) j 0 ≡ getD upto-starts j 0
+  past-ends j h = past-lows j (λ k l m. h k (omega arith) m) ∙ getD-set-other upto-starts (endsFrom + i) j (r .end) 0 (λ e. h 2 (omega arith) (omega arith) (omega arith))
 
-  past-names : (j : ℕ) → ((k : ℕ) → 0 ≤ k → k < 8 → j ≡ namesFrom + 512 * k + i → ⊥) → getD (rowWords ws i r) j 0 ≡ getD (ws) j 0
-  past-names j h = (past-starts j (λ k l m. h k (omega arith) m)) ∙ getD-set-other (ws) (namesFrom + i) j (r .name) 0 (λ e. h 0 (omega arith) (omega arith) (omega arith))
+  past-starts : (j : ℕ) → ((k : ℕ) → 1 ≤ k → k < 9 → j ≡ namesFrom + 512 * k + i → ⊥) → getD (rowWords ws i r) j 0 ≡ getD upto-names j 0
+  past-starts j h = past-ends j (λ k l m. h k (omega arith) m) ∙ getD-set-other upto-names (startsFrom + i) j (r .start) 0 (λ e. h 1 (omega arith) (omega arith) (omega arith))
+
+  past-names : (j : ℕ) → ((k : ℕ) → 0 ≤ k → k < 9 → j ≡ namesFrom + 512 * k + i → ⊥) → getD (rowWords ws i r) j 0 ≡ getD ws j 0
+  past-names j h = past-starts j (λ k l m. h k (omega arith) m) ∙ getD-set-other ws (namesFrom + i) j (r .name) 0 (λ e. h 0 (omega arith) (omega arith) (omega arith))
 
   -- a word that no field is stored in
-  pub row-word : (j : ℕ) → ((k : ℕ) → k < 8 → j ≡ namesFrom + 512 * k + i → ⊥) → getD (rowWords ws i r) j 0 ≡ getD ws j 0
+  pub row-word : (j : ℕ) → ((k : ℕ) → k < 9 → j ≡ namesFrom + 512 * k + i → ⊥) → getD (rowWords ws i r) j 0 ≡ getD ws j 0
   row-word j h = past-names j (λ k l m. h k m)
 
   length-names : length upto-names ≡ length ws
-  length-names = length-set (ws) (namesFrom + i) (r .name)
+  length-names = length-set ws (namesFrom + i) (r .name)
 
   length-starts : length upto-starts ≡ length ws
-  length-starts = length-set (upto-names) (startsFrom + i) (r .start) ∙ length-names
+  length-starts = length-set upto-names (startsFrom + i) (r .start) ∙ length-names
 
   length-ends : length upto-ends ≡ length ws
-  length-ends = length-set (upto-starts) (endsFrom + i) (r .end) ∙ length-starts
+  length-ends = length-set upto-starts (endsFrom + i) (r .end) ∙ length-starts
 
-  length-keys : length upto-keys ≡ length ws
-  length-keys = length-set (upto-ends) (keysFrom + i) (r .keys) ∙ length-ends
+  length-lows : length upto-lows ≡ length ws
+  length-lows = length-set upto-ends (lowsFrom + i) (r .keys % 4294967296) ∙ length-ends
+
+  length-highs : length upto-highs ≡ length ws
+  length-highs = length-set upto-lows (highsFrom + i) (r .keys / 4294967296) ∙ length-lows
 
   length-k1s : length upto-k1s ≡ length ws
-  length-k1s = length-set (upto-keys) (k1sFrom + i) (r .bounds .k1) ∙ length-keys
+  length-k1s = length-set upto-highs (k1sFrom + i) (r .bounds .k1) ∙ length-highs
 
   length-k2s : length upto-k2s ≡ length ws
-  length-k2s = length-set (upto-k1s) (k2sFrom + i) (r .bounds .k2) ∙ length-k1s
+  length-k2s = length-set upto-k1s (k2sFrom + i) (r .bounds .k2) ∙ length-k1s
 
   length-k3s : length upto-k3s ≡ length ws
-  length-k3s = length-set (upto-k2s) (k3sFrom + i) (r .bounds .k3) ∙ length-k2s
+  length-k3s = length-set upto-k2s (k3sFrom + i) (r .bounds .k3) ∙ length-k2s
 
   pub row-words-length : length (rowWords ws i r) ≡ length ws
   row-words-length = length-set upto-k3s (lastsFrom + i) (r .last) ∙ length-k3s
@@ -158,36 +167,42 @@ module _ (ws : List ℕ) (i : ℕ) (r : Row) where
   pub row-words-other : i < 512 → (j : ℕ) → j < 512 → (j ≡ i → ⊥) → rowAt (rowWords ws i r) j ≡ rowAt ws j
   row-words-other below j l h =
       rw
-      (row-word (namesFrom + j) (λ k m e. h (omega arith)), row-word (startsFrom + j) (λ k m e. h (omega arith)), row-word (endsFrom + j) (λ k m e. h (omega arith)), row-word (keysFrom + j) (λ k m e. h (omega arith)), row-word (k1sFrom + j) (λ k m e. h (omega arith)), row-word (k2sFrom + j) (λ k m e. h (omega arith)), row-word (k3sFrom + j) (λ k m e. h (omega arith)), row-word (lastsFrom + j) (λ k m e. h (omega arith)))
+      (row-word (namesFrom + j) (λ k m e. h (omega arith)), row-word (startsFrom + j) (λ k m e. h (omega arith)), row-word (endsFrom + j) (λ k m e. h (omega arith)), row-word (lowsFrom + j) (λ k m e. h (omega arith)), row-word (highsFrom + j) (λ k m e. h (omega arith)), row-word (k1sFrom + j) (λ k m e. h (omega arith)), row-word (k2sFrom + j) (λ k m e. h (omega arith)), row-word (k3sFrom + j) (λ k m e. h (omega arith)), row-word (lastsFrom + j) (λ k m e. h (omega arith)))
 
   -- the row stored stands there
   module _ (whole : length ws ≡ wordCount) (below : i < 512) where
     of-names : getD (rowWords ws i r) (namesFrom + i) 0 ≡ r .name
-    of-names = past-starts (namesFrom + i) (λ k l m e. omega arith) ∙ getD-set-same (ws) (namesFrom + i) (r .name) 0 (omega (arith))
+    of-names = past-starts (namesFrom + i) (λ k l m e. omega arith) ∙ getD-set-same ws (namesFrom + i) (r .name) 0 (omega (arith))
 
     of-starts : getD (rowWords ws i r) (startsFrom + i) 0 ≡ r .start
-    of-starts = past-ends (startsFrom + i) (λ k l m e. omega arith) ∙ getD-set-same (upto-names) (startsFrom + i) (r .start) 0 (omega (arith, length-names))
+    of-starts = past-ends (startsFrom + i) (λ k l m e. omega arith) ∙ getD-set-same upto-names (startsFrom + i) (r .start) 0 (omega (arith, length-names))
 
     of-ends : getD (rowWords ws i r) (endsFrom + i) 0 ≡ r .end
-    of-ends = past-keys (endsFrom + i) (λ k l m e. omega arith) ∙ getD-set-same (upto-starts) (endsFrom + i) (r .end) 0 (omega (arith, length-starts))
+    of-ends = past-lows (endsFrom + i) (λ k l m e. omega arith) ∙ getD-set-same upto-starts (endsFrom + i) (r .end) 0 (omega (arith, length-starts))
 
-    of-keys : getD (rowWords ws i r) (keysFrom + i) 0 ≡ r .keys
-    of-keys = past-k1s (keysFrom + i) (λ k l m e. omega arith) ∙ getD-set-same (upto-ends) (keysFrom + i) (r .keys) 0 (omega (arith, length-ends))
+    of-lows : getD (rowWords ws i r) (lowsFrom + i) 0 ≡ r .keys % 4294967296
+    of-lows = past-highs (lowsFrom + i) (λ k l m e. omega arith) ∙ getD-set-same upto-ends (lowsFrom + i) (r .keys % 4294967296) 0 (omega (arith, length-ends))
+
+    of-highs : getD (rowWords ws i r) (highsFrom + i) 0 ≡ r .keys / 4294967296
+    of-highs = past-k1s (highsFrom + i) (λ k l m e. omega arith) ∙ getD-set-same upto-lows (highsFrom + i) (r .keys / 4294967296) 0 (omega (arith, length-lows))
 
     of-k1s : getD (rowWords ws i r) (k1sFrom + i) 0 ≡ r .bounds .k1
-    of-k1s = past-k2s (k1sFrom + i) (λ k l m e. omega arith) ∙ getD-set-same (upto-keys) (k1sFrom + i) (r .bounds .k1) 0 (omega (arith, length-keys))
+    of-k1s = past-k2s (k1sFrom + i) (λ k l m e. omega arith) ∙ getD-set-same upto-highs (k1sFrom + i) (r .bounds .k1) 0 (omega (arith, length-highs))
 
     of-k2s : getD (rowWords ws i r) (k2sFrom + i) 0 ≡ r .bounds .k2
-    of-k2s = past-k3s (k2sFrom + i) (λ k l m e. omega arith) ∙ getD-set-same (upto-k1s) (k2sFrom + i) (r .bounds .k2) 0 (omega (arith, length-k1s))
+    of-k2s = past-k3s (k2sFrom + i) (λ k l m e. omega arith) ∙ getD-set-same upto-k1s (k2sFrom + i) (r .bounds .k2) 0 (omega (arith, length-k1s))
 
     of-k3s : getD (rowWords ws i r) (k3sFrom + i) 0 ≡ r .bounds .k3
-    of-k3s = past-lasts (k3sFrom + i) (λ k l m e. omega arith) ∙ getD-set-same (upto-k2s) (k3sFrom + i) (r .bounds .k3) 0 (omega (arith, length-k2s))
+    of-k3s = past-lasts (k3sFrom + i) (λ k l m e. omega arith) ∙ getD-set-same upto-k2s (k3sFrom + i) (r .bounds .k3) 0 (omega (arith, length-k2s))
 
     of-lasts : getD (rowWords ws i r) (lastsFrom + i) 0 ≡ r .last
-    of-lasts = getD-set-same (upto-k3s) (lastsFrom + i) (r .last) 0 (omega (arith, length-k3s))
+    of-lasts = getD-set-same upto-k3s (lastsFrom + i) (r .last) 0 (omega (arith, length-k3s))
+
+    halves : keysOf (r .keys % 4294967296) (r .keys / 4294967296) ≡ r .keys
+    halves = omega arith
 
     pub row-words-same : Fits r → rowAt (rowWords ws i r) i ≡ r
-    row-words-same f = rw (of-names, of-starts, of-ends, of-keys, of-k1s, of-k2s, of-k3s, of-lasts, mod-eq-of-lt (f .k1), mod-eq-of-lt (f .k2), mod-eq-of-lt (f .k3))
+    row-words-same f = rw (of-names, of-starts, of-ends, of-lows, of-highs, of-k1s, of-k2s, of-k3s, of-lasts, halves, mod-eq-of-lt (f .k1), mod-eq-of-lt (f .k2), mod-eq-of-lt (f .k3))
 
 -- the same of a recorded read
 module _ (ws : List ℕ) (i : ℕ) (s : Seen) where

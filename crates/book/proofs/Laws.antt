@@ -117,7 +117,7 @@ module _ (ws : List ℕ) (r : Row) where
       go false = refl
 
   -- no word changes but its own and the count
-  row-added-word : (j : ℕ) → (j ≡ rowsAt → ⊥) → (rowCount ws < 512 → (k : ℕ) → k < 8 → j ≡ namesFrom + 512 * k + rowCount ws → ⊥)
+  row-added-word : (j : ℕ) → (j ≡ rowsAt → ⊥) → (rowCount ws < 512 → (k : ℕ) → k < 9 → j ≡ namesFrom + 512 * k + rowCount ws → ⊥)
       → getD (rowAdded ws r) j 0 ≡ getD ws j 0
   unfolding rowAdded
   row-added-word j h f = go (ltb (rowCount ws) 512) refl

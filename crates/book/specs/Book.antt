@@ -1,5 +1,5 @@
 -- What the words of the judge's memory stand for: the ledger, newest first; and a row, a read, a verdict put down in them.
-use Prim.Native.Nat.{ℕ, zero, suc, _+_, _%_, _<_, min}
+use Prim.Native.Nat.{ℕ, zero, suc, _+_, _*_, _/_, _%_, _<_, min}
 use mathlib.Core.Bool.{cond}
 use mathlib.Core.List.{List, [], _∷_}
 use lib.Dec.{ltb}
@@ -9,7 +9,11 @@ use Rattle.records.specs.Order.{codeOf, verdictFrom}
 use Rattle.records.specs.declared.Judged.{Judged}
 use Rattle.records.specs.declared.Row.{Row}
 use Rattle.records.specs.declared.Seen.{Seen}
-use Rattle.book.specs.Layout.{endsFrom, judgedCodesFrom, judgedNamesFrom, k1sFrom, k2sFrom, k3sFrom, keysFrom, lastsFrom, namesFrom, readsAt, rowsAt, seenBeforesFrom, seenKeysFrom, seenLinesFrom, startsFrom, verdictsAt}
+use Rattle.book.specs.Layout.{endsFrom, judgedCodesFrom, judgedNamesFrom, k1sFrom, k2sFrom, k3sFrom, highsFrom, lastsFrom, lowsFrom, namesFrom, readsAt, rowsAt, seenBeforesFrom, seenKeysFrom, seenLinesFrom, startsFrom, verdictsAt}
+
+-- the word of the keys written, out of its halves
+abbrev pub keysOf : ℕ → ℕ → ℕ
+keysOf low high = low + 4294967296 * high
 
 abbrev pub rowAt : List ℕ → ℕ → Row
 rowAt ws i =
@@ -17,7 +21,7 @@ rowAt ws i =
       name = getD ws (namesFrom + i) 0;
       start = getD ws (startsFrom + i) 0;
       end = getD ws (endsFrom + i) 0;
-      keys = getD ws (keysFrom + i) 0;
+      keys = keysOf (getD ws (lowsFrom + i) 0) (getD ws (highsFrom + i) 0);
       bounds = record { k1 = getD ws (k1sFrom + i) 0 % 65536; k2 = getD ws (k2sFrom + i) 0 % 65536; k3 = getD ws (k3sFrom + i) 0 % 65536 };
       last = getD ws (lastsFrom + i) 0;
     }
@@ -80,9 +84,12 @@ rowWords ws i r =
     (set
     (set
     (set
+    (set
     (set (set (set ws (namesFrom + i) (r .name)) (startsFrom + i) (r .start)) (endsFrom + i) (r .end))
-    (keysFrom + i)
-    (r .keys))
+    (lowsFrom + i)
+    (r .keys % 4294967296))
+    (highsFrom + i)
+    (r .keys / 4294967296))
     (k1sFrom + i)
     (r .bounds .k1))
     (k2sFrom + i)

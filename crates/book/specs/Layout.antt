@@ -1,4 +1,4 @@
--- Where each thing lies in the judge's memory, in words of 64 bits: three counts, then a region of 512 words for each field of a row, one of 4,096
+-- Where each thing lies in the judge's memory, in words of 32 bits: three counts, then a region of 512 words for each field of a row, one of 4,096
 -- for each field of a recorded read, and one of 512 for each field of a verdict. src/layout.rt says the same.
 use Prim.Native.Nat.{ℕ}
 
@@ -20,35 +20,39 @@ startsFrom = 515
 abbrev pub endsFrom : ℕ
 endsFrom = 1027
 
-abbrev pub keysFrom : ℕ
-keysFrom = 1539
+-- the word of the keys written, in two halves: the keys below 32, and the others
+abbrev pub lowsFrom : ℕ
+lowsFrom = 1539
+
+abbrev pub highsFrom : ℕ
+highsFrom = 2051
 
 abbrev pub k1sFrom : ℕ
-k1sFrom = 2051
+k1sFrom = 2563
 
 abbrev pub k2sFrom : ℕ
-k2sFrom = 2563
+k2sFrom = 3075
 
 abbrev pub k3sFrom : ℕ
-k3sFrom = 3075
+k3sFrom = 3587
 
 abbrev pub lastsFrom : ℕ
-lastsFrom = 3587
+lastsFrom = 4099
 
 abbrev pub seenKeysFrom : ℕ
-seenKeysFrom = 4099
+seenKeysFrom = 4611
 
 abbrev pub seenLinesFrom : ℕ
-seenLinesFrom = 8195
+seenLinesFrom = 8707
 
 abbrev pub seenBeforesFrom : ℕ
-seenBeforesFrom = 12291
+seenBeforesFrom = 12803
 
 abbrev pub judgedNamesFrom : ℕ
-judgedNamesFrom = 16387
+judgedNamesFrom = 16899
 
 abbrev pub judgedCodesFrom : ℕ
-judgedCodesFrom = 16899
+judgedCodesFrom = 17411
 
 abbrev pub wordCount : ℕ
-wordCount = 17411
+wordCount = 17923

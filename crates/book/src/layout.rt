@@ -1,4 +1,4 @@
-// Where each thing lies in the judge's memory, in words of 64 bits; specs/Layout.antt says the same.
+// Where each thing lies in the judge's memory, in words of 32 bits; specs/Layout.antt says the same.
 use units::limits;
 
 // How many rows, recorded reads and verdicts there are.
@@ -14,9 +14,12 @@ pub const STARTS: usize = NAMES + limits::TRANSACTIONS;
 
 pub const ENDS: usize = STARTS + limits::TRANSACTIONS;
 
-pub const KEYS: usize = ENDS + limits::TRANSACTIONS;
+// The word of the keys written, in two halves: the keys below 32, and the others.
+pub const LOWS: usize = ENDS + limits::TRANSACTIONS;
 
-pub const K1S: usize = KEYS + limits::TRANSACTIONS;
+pub const HIGHS: usize = LOWS + limits::TRANSACTIONS;
+
+pub const K1S: usize = HIGHS + limits::TRANSACTIONS;
 
 pub const K2S: usize = K1S + limits::TRANSACTIONS;
 

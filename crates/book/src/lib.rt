@@ -1,9 +1,9 @@
 // The judge's whole ledger in one lent array of words: where each thing lies, and how a row, a recorded read and a verdict are loaded and stored.
-ghost use Prim.Native.Nat.{_%_};
+ghost use Prim.Native.Nat.{_≤_, _/_, _%_};
 ghost use mathlib.Core.Path.{_≡_};
 ghost use Rattle.records.specs.Ledger.{noRow};
 ghost use Rattle.records.specs.Order.{codeOf};
-ghost use Rattle.book.specs.Book.{rowCount, readCount, verdictCount, rowLoaded, rowStored, rowAdded, seenAdded, judgedAdded};
+ghost use Rattle.book.specs.Book.{keysOf, rowCount, readCount, verdictCount, rowLoaded, rowStored, rowAdded, seenAdded, judgedAdded};
 use records::ABORTED;
 use records::Judged;
 use records::Row;
@@ -16,13 +16,14 @@ use units::limits;
 mod layout;
 
 pub use layout::ENDS;
+pub use layout::HIGHS;
 pub use layout::JUDGED_CODES;
 pub use layout::JUDGED_NAMES;
 pub use layout::K1S;
 pub use layout::K2S;
 pub use layout::K3S;
-pub use layout::KEYS;
 pub use layout::LASTS;
+pub use layout::LOWS;
 pub use layout::NAMES;
 pub use layout::READS;
 pub use layout::ROWS;
@@ -34,50 +35,51 @@ pub use layout::VERDICTS;
 pub use layout::WORDS;
 
 // How many rows, recorded reads and verdicts there are; a count past its limit counts as the limit.
-pub fn rows(memory: &[u64; WORDS]) -> usize
+pub fn rows(memory: &[u32; WORDS]) -> usize
     ensures { λ r. ⌜ r ≡ rowCount (now (memory .entry)) ⌝ }
 {
     at_most(wide(memory[ROWS]), limits::TRANSACTIONS)
 }
 
-pub fn reads(memory: &[u64; WORDS]) -> usize
+pub fn reads(memory: &[u32; WORDS]) -> usize
     ensures { λ r. ⌜ r ≡ readCount (now (memory .entry)) ⌝ }
 {
     at_most(wide(memory[READS]), limits::LINES)
 }
 
-pub fn verdicts(memory: &[u64; WORDS]) -> usize
+pub fn verdicts(memory: &[u32; WORDS]) -> usize
     ensures { λ r. ⌜ r ≡ verdictCount (now (memory .entry)) ⌝ }
 {
     at_most(wide(memory[VERDICTS]), limits::TRANSACTIONS)
 }
 
-fn wide(w: u64) -> usize
+fn wide(w: u32) -> usize
     ensures { λ r. ⌜ r ≡ w ⌝ }
 {
     w as usize
 }
 
-fn word_of(n: usize) -> u64
+fn word_of(n: usize) -> u32
+    requires { ⌜ n ≤ 4096 ⌝ }
     ensures { λ r. ⌜ r ≡ n ⌝ }
 {
-    n as u64
+    n as u32
 }
 
-fn word_of_bound(k: u16) -> u64
+fn word_of_bound(k: u16) -> u32
     ensures { λ r. ⌜ r ≡ k ⌝ }
 {
-    k as u64
+    k as u32
 }
 
-fn bound_of(w: u64) -> u16
+fn bound_of(w: u32) -> u16
     ensures { λ r. ⌜ r ≡ w % 65536 ⌝ }
 {
     (w % 65536) as u16
 }
 
 // The row of a number, counted from 1; where there is none, a row that has ended.
-pub fn load_row(memory: &[u64; WORDS], number: usize) -> Row
+pub fn load_row(memory: &[u32; WORDS], number: usize) -> Row
     ensures { λ r. ⌜ r ≡ rowLoaded (now (memory .entry)) number ⌝ }
 {
     if number == 0 {
@@ -89,7 +91,7 @@ pub fn load_row(memory: &[u64; WORDS], number: usize) -> Row
             name: memory[NAMES + i],
             start: memory[STARTS + i],
             end: memory[ENDS + i],
-            keys: memory[KEYS + i],
+            keys: keys_of(memory[LOWS + i], memory[HIGHS + i]),
             bounds: Bounds {
                 k1: bound_of(memory[K1S + i]),
                 k2: bound_of(memory[K2S + i]),
@@ -99,6 +101,25 @@ pub fn load_row(memory: &[u64; WORDS], number: usize) -> Row
         };
     }
     no_row()
+}
+
+// The word of the keys out of its halves, and the halves of a word.
+pub fn keys_of(low: u32, high: u32) -> u64
+    ensures { λ r. ⌜ r ≡ keysOf low high ⌝ }
+{
+    low as u64 + 4294967296 * (high as u64)
+}
+
+fn low_of(keys: u64) -> u32
+    ensures { λ r. ⌜ r ≡ keys % 4294967296 ⌝ }
+{
+    (keys % 4294967296) as u32
+}
+
+fn high_of(keys: u64) -> u32
+    ensures { λ r. ⌜ r ≡ keys / 4294967296 ⌝ }
+{
+    (keys / 4294967296) as u32
 }
 
 fn no_row() -> Row
@@ -119,7 +140,7 @@ fn no_row() -> Row
 }
 
 // A row at a place, counted from 0; past the last place nothing is stored.
-pub fn store_row(memory: &mut [u64; WORDS], place: usize, row: Row)
+pub fn store_row(memory: &mut [u32; WORDS], place: usize, row: Row)
     ensures { λ _. ⌜ now (memory .exit) ≡ rowStored (now (memory .entry)) place row ⌝ }
 {
     if place < limits::TRANSACTIONS {
@@ -127,7 +148,8 @@ pub fn store_row(memory: &mut [u64; WORDS], place: usize, row: Row)
         memory[NAMES + place] = row.name;
         memory[STARTS + place] = row.start;
         memory[ENDS + place] = row.end;
-        memory[KEYS + place] = row.keys;
+        memory[LOWS + place] = low_of(row.keys);
+        memory[HIGHS + place] = high_of(row.keys);
         memory[K1S + place] = word_of_bound(b.k1);
         memory[K2S + place] = word_of_bound(b.k2);
         memory[K3S + place] = word_of_bound(b.k3);
@@ -136,7 +158,7 @@ pub fn store_row(memory: &mut [u64; WORDS], place: usize, row: Row)
 }
 
 // One row more; where there are 512, nothing is stored.
-pub fn add_row(memory: &mut [u64; WORDS], row: Row)
+pub fn add_row(memory: &mut [u32; WORDS], row: Row)
     ensures { λ _. ⌜ now (memory .exit) ≡ rowAdded (now (memory .entry)) row ⌝ }
 {
     let n = rows(memory);
@@ -147,7 +169,7 @@ pub fn add_row(memory: &mut [u64; WORDS], row: Row)
 }
 
 // One recorded read more; where there are 4,096, nothing is stored.
-pub fn add_read(memory: &mut [u64; WORDS], seen: Seen)
+pub fn add_read(memory: &mut [u32; WORDS], seen: Seen)
     ensures { λ _. ⌜ now (memory .exit) ≡ seenAdded (now (memory .entry)) seen ⌝ }
 {
     let n = reads(memory);
@@ -160,7 +182,7 @@ pub fn add_read(memory: &mut [u64; WORDS], seen: Seen)
 }
 
 // One verdict more; where there are 512, nothing is stored.
-pub fn add_verdict(memory: &mut [u64; WORDS], judged: Judged)
+pub fn add_verdict(memory: &mut [u32; WORDS], judged: Judged)
     ensures { λ _. ⌜ now (memory .exit) ≡ judgedAdded (now (memory .entry)) judged ⌝ }
 {
     let n = verdicts(memory);
@@ -173,7 +195,7 @@ pub fn add_verdict(memory: &mut [u64; WORDS], judged: Judged)
 }
 
 // A verdict by its place in the order ok, RC, BV, FV, SV, WC.
-fn code_of(v: Verdict) -> u64
+fn code_of(v: Verdict) -> u32
     ensures { λ r. ⌜ r ≡ codeOf v ⌝ }
 {
     match v {

@@ -33,7 +33,7 @@ pub enum Taken {
 }
 
 // One record at its line. On a refusal every word stays as it was.
-pub fn take(memory: &mut [u64; WORDS], line: u32, e: Record) -> Taken
+pub fn take(memory: &mut [u32; WORDS], line: u32, e: Record) -> Taken
     ensures reply { λ r. ⌜ takenReply r ≡ replyTo (lineStep line e (ledgerOf (now (memory .entry)))) ⌝ }
     ensures memory { λ _. ⌜ now (memory .exit) ≡ booked (now (memory .entry)) line e ⌝ }
 {
@@ -50,7 +50,7 @@ pub fn take(memory: &mut [u64; WORDS], line: u32, e: Record) -> Taken
 }
 
 // A start: "a number used before" is refused, and so is the 513th.
-fn begin(memory: &mut [u64; WORDS], line: u32, name: u32, number: usize) -> Taken
+fn begin(memory: &mut [u32; WORDS], line: u32, name: u32, number: usize) -> Taken
     requires { ⌜ number ≡ placeOf (rowsIn (now memory)) name ⌝ }
     ensures reply { λ r. ⌜ takenReply r ≡ replyTo (begun line name (ledgerOf (now (memory .entry)))) ⌝ }
     ensures memory { λ _. ⌜ now (memory .exit) ≡ onReply (replyTo (begun line name (ledgerOf (now (memory .entry))))) (now (memory .entry)) (rowAdded (now (memory .entry)) (freshRow line name)) ⌝ }
@@ -79,7 +79,7 @@ fn fresh_row(line: u32, name: u32) -> Row
 }
 
 // Any other record of an open transaction: what it does to its row, which stands at a place.
-fn settle(memory: &mut [u64; WORDS], line: u32, e: Record, place: usize, row: Row)
+fn settle(memory: &mut [u32; WORDS], line: u32, e: Record, place: usize, row: Row)
     ensures { λ _. ⌜ now (memory .exit) ≡ settled (now (memory .entry)) line e place row ⌝ }
 {
     match e {
@@ -93,7 +93,7 @@ fn settle(memory: &mut [u64; WORDS], line: u32, e: Record, place: usize, row: Ro
 }
 
 // A read, which is recorded as the row's last where it is a record.
-fn note(memory: &mut [u64; WORDS], key: u8, w: u32, place: usize, mut row: Row)
+fn note(memory: &mut [u32; WORDS], key: u8, w: u32, place: usize, mut row: Row)
     ensures { λ _. ⌜ now (memory .exit) ≡ settled (now (memory .entry)) 0 (Record.Read 0 key w) place row ⌝ }
 {
     if is_recorded(row, key, w) {
@@ -125,7 +125,7 @@ fn is_recorded(row: Row, key: u8, w: u32) -> bool
 }
 
 // A commit: its verdict, over the rows as they were before it, and the end of its row.
-fn conclude(memory: &mut [u64; WORDS], line: u32, name: u32, place: usize, row: Row)
+fn conclude(memory: &mut [u32; WORDS], line: u32, name: u32, place: usize, row: Row)
     ensures { λ _. ⌜ now (memory .exit) ≡ settled (now (memory .entry)) line (Record.Commit name) place row ⌝ }
 {
     let verdict = verdict_on(memory, line as u64, row);

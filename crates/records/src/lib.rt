@@ -25,24 +25,24 @@ pub enum Verdict {
 // What the judge remembers of a transaction: its number, the line of its start, its end (0 while it is open, the line of its commit,
 // or ABORTED), the word of the keys that it wrote, its bounds, and the number of its last recorded read (0 for none).
 pub struct Row {
-    pub name: u64,
-    pub start: u64,
-    pub end: u64,
+    pub name: u32,
+    pub start: u32,
+    pub end: u32,
     pub keys: u64,
     pub bounds: Bounds,
-    pub last: u64,
+    pub last: u32,
 }
 
 // A recorded read: its key, the line of the commit that made the version read (0 for the start version, NOWHERE where the reading
 // rule is broken), and the number of the same transaction's read before it (0 for none). Reads are numbered from 1.
 pub struct Seen {
-    pub key: u64,
-    pub line: u64,
-    pub before: u64,
+    pub key: u32,
+    pub line: u32,
+    pub before: u32,
 }
 
 pub struct Judged {
-    pub name: u64,
+    pub name: u32,
     pub verdict: Verdict,
 }
 
@@ -54,6 +54,6 @@ pub struct Totals {
 }
 
 // No line of a history has this number. An aborted transaction ends nowhere: it made no version.
-pub const NOWHERE: u64 = 4294967295;
+pub const NOWHERE: u32 = 4294967295;
 
-pub const ABORTED: u64 = NOWHERE;
+pub const ABORTED: u32 = NOWHERE;

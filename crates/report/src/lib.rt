@@ -35,7 +35,7 @@ const LONGEST: usize = 12405;
 const LONGEST_REFUSED: usize = 50;
 
 // The verdicts that stand in the judge's memory, in order of commit lines.
-pub fn write_report(room: &mut [u8], memory: &[u64; WORDS], totals: Totals) -> Written
+pub fn write_report(room: &mut [u8], memory: &[u32; WORDS], totals: Totals) -> Written
     ensures reply { λ r. ⌜ writtenReply r ≡ writtenAs (now (room .entry)) (reportText (reverse (judgedIn (now (memory .entry)))) totals) ⌝ }
     ensures buffer { λ _. ⌜ now (room .exit) ≡ put (now (room .entry)) 0 (reportText (reverse (judgedIn (now (memory .entry)))) totals) ⌝ }
 {
@@ -65,7 +65,7 @@ fn hand_over(room: &mut [u8], text: &[u8]) -> Written
     Written::Bytes(n)
 }
 
-fn put_report(text: &mut [u8], memory: &[u64; WORDS], totals: Totals) -> usize
+fn put_report(text: &mut [u8], memory: &[u32; WORDS], totals: Totals) -> usize
     requires { ⌜ length (now text) ≡ 12405 ⌝ }
     ensures { λ r. ⌜ Puts (now (text .entry)) (now (text .exit)) 0 (reportText (reverse (judgedIn (now (memory .entry)))) totals) r ⌝ }
 {
@@ -103,7 +103,7 @@ fn put_total(text: &mut [u8], at: usize, totals: Totals) -> usize
     put_number(text, d, totals.open as u64, NEWLINE)
 }
 
-fn put_verdicts(text: &mut [u8], at: usize, memory: &[u64; WORDS], n: usize) -> usize
+fn put_verdicts(text: &mut [u8], at: usize, memory: &[u32; WORDS], n: usize) -> usize
     requires { ⌜ (n ≤ 512) × (at + 12288 ≤ length (now text)) ⌝ }
     ensures { λ r. ⌜ (Puts (now (text .entry)) (now (text .exit)) at (verdictLines (reverse (judgedOf (now (memory .entry)) n))) r) × (r ≤ at + 12288) ⌝ }
 {

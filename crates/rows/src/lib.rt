@@ -15,7 +15,7 @@ use records::NOWHERE;
 use records::Row;
 
 // The newest row of a name, by its number from 1; 0 where there is none.
-pub fn find(memory: &[u64; WORDS], name: u32) -> usize
+pub fn find(memory: &[u32; WORDS], name: u32) -> usize
     ensures { λ r. ⌜ r ≡ placeOf (rowsIn (now (memory .entry))) name ⌝ }
 {
     let word = name as u64;
@@ -54,7 +54,7 @@ pub struct Counted {
 // The versions of a key committed after one line and at or before another, and those committed strictly between two lines: both by one walk, the
 // judge's hot loop.
 pub fn count_both(
-    memory: &[u64; WORDS],
+    memory: &[u32; WORDS],
     key: u64,
     after: u64,
     until: u64,
@@ -104,7 +104,7 @@ fn one_if_between(word: u64, end: u64, key: u64, from: u64, before: u64) -> u32
 }
 
 // Whether some row breaks WC for the row's own commit at a line.
-pub fn overtaken(memory: &[u64; WORDS], line: u64, row: Row) -> bool
+pub fn overtaken(memory: &[u32; WORDS], line: u64, row: Row) -> bool
     ensures { λ r. ⌜ r ≡ any (overtakes line row) (rowsIn (now (memory .entry))) ⌝ }
 {
     let end = book::rows(memory);
@@ -133,7 +133,7 @@ fn one_if_overtakes(word: u64, end: u64, line: u64, row: Row) -> u32
 }
 
 // The line of W's commit where W committed and wrote the key, 0 for the start version, else NOWHERE.
-pub fn resolve(memory: &[u64; WORDS], w: u32, key: u8) -> u64
+pub fn resolve(memory: &[u32; WORDS], w: u32, key: u8) -> u64
     ensures { λ r. ⌜ r ≡ resolved (rowsIn (now (memory .entry))) w key ⌝ }
 {
     if w == 0 {

@@ -16,7 +16,7 @@ use rows::overtaken;
 
 // What the rules say of a commit at a line: ok, or the first that is broken of RC, BV, FV, SV and WC. Of the lines read, only the latest
 // matters as SV's y, since more versions lie before a later line.
-pub fn verdict_on(memory: &[u64; WORDS], line: u64, row: Row) -> Verdict
+pub fn verdict_on(memory: &[u32; WORDS], line: u64, row: Row) -> Verdict
     ensures { λ r. ⌜ r ≡ verdictOn (rowsIn (now (memory .entry))) (chain (seensIn (now (memory .entry))) (row .last)) line row ⌝ }
 {
     let y = latest(memory, row.last);
@@ -47,7 +47,7 @@ fn earlier(number: u64, most: usize) -> usize
     if n <= most { n } else { 0 }
 }
 
-fn latest(memory: &[u64; WORDS], last: u64) -> u64
+fn latest(memory: &[u32; WORDS], last: u64) -> u64
     ensures { λ r. ⌜ r ≡ latestOf (chain (seensIn (now (memory .entry))) last) ⌝ }
 {
     let mut at = earlier(last, book::reads(memory));
@@ -73,7 +73,7 @@ fn sooner(a: u64, b: u64) -> u64
 }
 
 // The least of the ranks of the reads, against the latest line read.
-fn first_broken(memory: &[u64; WORDS], row: Row, y: u64) -> u8
+fn first_broken(memory: &[u32; WORDS], row: Row, y: u64) -> u8
     ensures { λ r. ⌜ r ≡ leastOf (rules (rowsIn (now (memory .entry))) row y) (chain (seensIn (now (memory .entry))) (row .last)) ⌝ }
 {
     let mut at = earlier(row.last, book::reads(memory));
@@ -102,7 +102,7 @@ fn lesser(a: u8, b: u8) -> u8
 }
 
 // The first rule that a read breaks. The versions between the start and the line read are its distance, either way.
-fn rank_of(memory: &[u64; WORDS], row: Row, y: u64, key: u64, line: u64) -> u8
+fn rank_of(memory: &[u32; WORDS], row: Row, y: u64, key: u64, line: u64) -> u8
     ensures { λ r. ⌜ ((b : ℕ) → r ≡ rankOf (rules (rowsIn (now (memory .entry))) row y) (record { key = key; line = line; before = b })) ⌝ }
 {
     if line == NOWHERE {

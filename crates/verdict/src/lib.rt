@@ -61,14 +61,14 @@ pub fn judge(text: &[u8], room: &mut [u8]) -> Answer
     if limits::HISTORY < text.len() {
         return Answer::Refused(Refusal::HistoryTooLong, 0);
     }
-    let mut memory = [0u64; WORDS];
+    let mut memory = [0u32; WORDS];
     match run(text, &mut memory) {
         Ran::Refused(f, line) => Answer::Refused(f, line),
         Ran::Done(totals) => finish(room, &memory, totals),
     }
 }
 
-fn finish(room: &mut [u8], memory: &[u64; WORDS], totals: Totals) -> Answer
+fn finish(room: &mut [u8], memory: &[u32; WORDS], totals: Totals) -> Answer
     ensures reply { λ r. ⌜ replyOf r ≡ replied (judged (reverse (judgedIn (now (memory .entry)))) totals) (now (room .entry)) ⌝ }
     ensures buffer { λ _. ⌜ now (room .exit) ≡ roomAfter (judged (reverse (judgedIn (now (memory .entry)))) totals) (now (room .entry)) ⌝ }
 {
@@ -80,7 +80,7 @@ fn finish(room: &mut [u8], memory: &[u64; WORDS], totals: Totals) -> Answer
 
 // The lines from the first on, and the memory as it is lent. One reader goes from the first line to the last, and the totals are the ones that are
 // handed over at the end: both are lent to the functions that move them, so this is proved by hand.
-fn run(text: &[u8], memory: &mut [u64; WORDS]) -> Ran
+fn run(text: &[u8], memory: &mut [u32; WORDS]) -> Ran
     ensures { λ r. ⌜ passed (ranTo r (now (memory .exit))) (now (memory .exit)) ≡ passes (now (text .entry)) 0 1 noTotals (now (memory .entry)) ⌝ }
 {
     let mut reader = Reader { text, at: 0 };
@@ -120,7 +120,7 @@ fn came(line: u32, l: Line) -> Came
 }
 
 // A record goes into the ledger, which may refuse it.
-fn take_line(memory: &mut [u64; WORDS], line: u32, c: Came) -> Came
+fn take_line(memory: &mut [u32; WORDS], line: u32, c: Came) -> Came
     ensures reply { λ r. ⌜ comingOf r ≡ taken (now (memory .entry)) line (comingOf c) ⌝ }
     ensures memory { λ _. ⌜ now (memory .exit) ≡ wordsAfter (now (memory .entry)) line (comingOf c) ⌝ }
 {

@@ -7,6 +7,7 @@ use Rattle.book.proofs.load_row.Tie as tie
 use Rattle.book.proofs.load_row.Reads as reads
 use Rattle.book.proofs.load_row.Lts as lts
 use Rattle.book.proofs.bound_of.Reads as bound-of-reads
+use Rattle.book.proofs.keys_of.Reads as keys-of-reads
 use Rattle.book.proofs.no_row.Reads as no-row-reads
 
 no-row-requires : tie.Need-no-row-requires
@@ -45,14 +46,26 @@ mul-t16 c = search needs
 element-copy-out-t19 : tie.Need-element-copy-out-t19
 element-copy-out-t19 c = search needs
 
-add-t20 : tie.Need-add-t20
-add-t20 c = search needs
+add-keys-of : tie.Need-add-keys-of
+add-keys-of c = search needs
 
-mul-t21 : tie.Need-mul-t21
-mul-t21 c = search needs
+mul-keys-of : tie.Need-mul-keys-of
+mul-keys-of c = search needs
 
-element-copy-out-t24 : tie.Need-element-copy-out-t24
-element-copy-out-t24 c = search needs
+element-copy-out-keys-of : tie.Need-element-copy-out-keys-of
+element-copy-out-keys-of c = search needs
+
+add-keys-of-2 : tie.Need-add-keys-of-2
+add-keys-of-2 c = search needs
+
+mul-keys-of-2 : tie.Need-mul-keys-of-2
+mul-keys-of-2 c = search needs
+
+element-copy-out-keys-of-2 : tie.Need-element-copy-out-keys-of-2
+element-copy-out-keys-of-2 c = search needs
+
+keys-of-requires : tie.Need-keys-of-requires
+keys-of-requires c κs = search needs
 
 add-bound-of : tie.Need-add-bound-of
 add-bound-of c = search needs
@@ -90,17 +103,17 @@ element-copy-out-bound-of-3 c = search needs
 bound-of-requires-3 : tie.Need-bound-of-requires-3
 bound-of-requires-3 c κs = search needs
 
-add-t44 : tie.Need-add-t44
-add-t44 c = search needs
+add-t50 : tie.Need-add-t50
+add-t50 c = search needs
 
-mul-t45 : tie.Need-mul-t45
-mul-t45 c = search needs
+mul-t51 : tie.Need-mul-t51
+mul-t51 c = search needs
 
-element-copy-out-t48 : tie.Need-element-copy-out-t48
-element-copy-out-t48 c = search needs
+element-copy-out-t54 : tie.Need-element-copy-out-t54
+element-copy-out-t54 c = search needs
 
 returns-2 : tie.Need-returns-2
-returns-2 c = load-bounds _ _ _ _ _ (omega arith) (c .before .before .before .before .before .before .before .before .before .before .before .if2 .taken) (c .before .before .before .before .before .bound-of .ensures) (c .before .before .before .bound-of2 .ensures) (c .before .bound-of3 .ensures)
+returns-2 c = load-bounds _ _ _ _ _ _ (omega arith) (c .before .before .before .before .before .before .before .before .before .before .before .before .before .if2 .taken) (c .before .before .before .before .before .before .before .keys-of .ensures) (c .before .before .before .before .before .bound-of .ensures) (c .before .before .before .bound-of2 .ensures) (c .before .bound-of3 .ensures)
 
 no-row-requires-2 : tie.Need-no-row-requires-2
 no-row-requires-2 c κs = search needs
@@ -124,9 +137,13 @@ load-row-spec =
     add-t15
     mul-t16
     element-copy-out-t19
-    add-t20
-    mul-t21
-    element-copy-out-t24
+    add-keys-of
+    mul-keys-of
+    element-copy-out-keys-of
+    add-keys-of-2
+    mul-keys-of-2
+    element-copy-out-keys-of-2
+    keys-of-requires
     add-bound-of
     mul-bound-of
     element-copy-out-bound-of
@@ -139,9 +156,9 @@ load-row-spec =
     mul-bound-of-3
     element-copy-out-bound-of-3
     bound-of-requires-3
-    add-t44
-    mul-t45
-    element-copy-out-t48
+    add-t50
+    mul-t51
+    element-copy-out-t54
     returns-2
     no-row-requires-2
     returns-3)
