@@ -198,11 +198,11 @@ module _ (ws : List ℕ) (i : ℕ) (r : Row) where
     of-lasts : getD (rowWords ws i r) (lastsFrom + i) 0 ≡ r .last
     of-lasts = getD-set-same upto-k3s (lastsFrom + i) (r .last) 0 (omega (arith, length-k3s))
 
-    halves : keysOf (r .keys % 4294967296) (r .keys / 4294967296) ≡ r .keys
-    halves = omega arith
+    halves : r .keys < 18446744073709551616 → keysOf (r .keys % 4294967296) (r .keys / 4294967296) ≡ r .keys
+    halves h = omega arith
 
     pub row-words-same : Fits r → rowAt (rowWords ws i r) i ≡ r
-    row-words-same f = rw (of-names, of-starts, of-ends, of-lows, of-highs, of-k1s, of-k2s, of-k3s, of-lasts, halves, mod-eq-of-lt (f .k1), mod-eq-of-lt (f .k2), mod-eq-of-lt (f .k3))
+    row-words-same f = rw (of-names, of-starts, of-ends, of-lows, of-highs, of-k1s, of-k2s, of-k3s, of-lasts, halves (f .keys), mod-eq-of-lt (f .k1), mod-eq-of-lt (f .k2), mod-eq-of-lt (f .k3))
 
 -- the same of a recorded read
 module _ (ws : List ℕ) (i : ℕ) (s : Seen) where

@@ -273,13 +273,13 @@ module _ (ws : List ℕ) (v : Judged) where
 
 -- ---- a row of the memory is one that its words can say
 pub fits-row : (ws : List ℕ) (i : ℕ) → Fits (rowAt ws i)
-fits-row ws i = record { k1 = mod-lt _ (omega arith); k2 = mod-lt _ (omega arith); k3 = mod-lt _ (omega arith) }
+fits-row ws i = record { keys = omega arith; k1 = mod-lt _ (omega arith); k2 = mod-lt _ (omega arith); k3 = mod-lt _ (omega arith) }
 
 pub fits-loaded : (ws : List ℕ) (n : ℕ) → Fits (rowLoaded ws n)
 unfolding rowLoaded
-fits-loaded ws zero = record { k1 = omega arith; k2 = omega arith; k3 = omega arith }
+fits-loaded ws zero = record { keys = omega arith; k1 = omega arith; k2 = omega arith; k3 = omega arith }
 fits-loaded ws (suc i) = go (ltb i 512)
   where
     go : (b : Bool) → Fits (cond b (rowAt ws i) noRow)
     go true = fits-row ws i
-    go false = record { k1 = omega arith; k2 = omega arith; k3 = omega arith }
+    go false = record { keys = omega arith; k1 = omega arith; k2 = omega arith; k3 = omega arith }

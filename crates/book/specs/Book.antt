@@ -13,7 +13,7 @@ use Rattle.book.specs.Layout.{endsFrom, judgedCodesFrom, judgedNamesFrom
 
 -- the word of the keys written, out of its halves
 abbrev pub keysOf : ℕ → ℕ → ℕ
-keysOf low high = low + 4294967296 * high
+keysOf low high = low % 4294967296 + 4294967296 * (high % 4294967296)
 
 abbrev pub rowAt : List ℕ → ℕ → Row
 rowAt ws i =
@@ -120,8 +120,9 @@ judgedWords ws i j = set (set ws (judgedNamesFrom + i) (j .name)) (judgedCodesFr
 unfoldable pub judgedAdded : List ℕ → Judged → List ℕ
 judgedAdded ws j = cond (ltb (verdictCount ws) 512) (set (judgedWords ws (verdictCount ws) j) verdictsAt (suc (verdictCount ws))) ws
 
--- a row that its words can say: its bounds have 16 bits
+-- a row that its words can say: the word of its keys has 64 bits, its bounds 16
 pub record Fits (r : Row) : Type 0 where
+  pub keys : r .keys < 18446744073709551616
   pub k1 : r .bounds .k1 < 65536
   pub k2 : r .bounds .k2 < 65536
   pub k3 : r .bounds .k3 < 65536

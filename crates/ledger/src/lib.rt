@@ -69,8 +69,8 @@ fn fresh_row(line: u32, name: u32) -> Row
     ensures { λ r. ⌜ r ≡ freshRow line name ⌝ }
 {
     Row {
-        name: name as u64,
-        start: line as u64,
+        name,
+        start: line,
         end: 0,
         keys: 0,
         bounds: Bounds::DEFAULT,
@@ -102,12 +102,12 @@ fn note(memory: &mut [u32; WORDS], key: u8, w: u32, place: usize, mut row: Row)
         add_read(
             memory,
             Seen {
-                key: key as u64,
+                key: key as u32,
                 line,
                 before: row.last,
             },
         );
-        row.last = (seens + 1) as u64;
+        row.last = (seens + 1) as u32;
         store_row(memory, place, row);
         return;
     }
@@ -118,8 +118,8 @@ fn note(memory: &mut [u32; WORDS], key: u8, w: u32, place: usize, mut row: Row)
 fn is_recorded(row: Row, key: u8, w: u32) -> bool
     ensures { λ r. ⌜ r ≡ isRecorded row key w ⌝ }
 {
-    if w as u64 == row.name {
-        return !has(row.keys, key as u64);
+    if w == row.name {
+        return !has(row.keys, key as u32);
     }
     true
 }
@@ -128,15 +128,9 @@ fn is_recorded(row: Row, key: u8, w: u32) -> bool
 fn conclude(memory: &mut [u32; WORDS], line: u32, name: u32, place: usize, row: Row)
     ensures { λ _. ⌜ now (memory .exit) ≡ settled (now (memory .entry)) line (Record.Commit name) place row ⌝ }
 {
-    let verdict = verdict_on(memory, line as u64, row);
-    add_verdict(
-        memory,
-        Judged {
-            name: name as u64,
-            verdict,
-        },
-    );
-    store_row(memory, place, ended(row, line as u64));
+    let verdict = verdict_on(memory, line, row);
+    add_verdict(memory, Judged { name, verdict });
+    store_row(memory, place, ended(row, line));
 }
 
 fn tuned(mut row: Row, b: Bounds) -> Row
@@ -153,7 +147,7 @@ fn written(mut row: Row, key: u8) -> Row
     row
 }
 
-fn ended(mut row: Row, line: u64) -> Row
+fn ended(mut row: Row, line: u32) -> Row
     ensures { λ r. ⌜ r ≡ withEnd row line ⌝ }
 {
     row.end = line;

@@ -116,16 +116,16 @@ fn put_verdicts(text: &mut [u8], at: usize, memory: &[u32; WORDS], n: usize) -> 
     to
 }
 
-fn put_verdict(text: &mut [u8], at: usize, name: u64, code: u64) -> usize
+fn put_verdict(text: &mut [u8], at: usize, name: u32, code: u32) -> usize
     requires { ⌜ at + 24 ≤ length (now text) ⌝ }
     ensures { λ r. ⌜ (Puts (now (text .entry)) (now (text .exit)) at (verdictLine (record { name = name; verdict = verdictFrom code })) r) × (r ≤ at + 24) ⌝ }
 {
-    let a = put_number(text, at, name, SPACE);
+    let a = put_number(text, at, name as u64, SPACE);
     let word = word_of(code);
     put_word(text, a, &word, NEWLINE)
 }
 
-fn word_of(code: u64) -> [u8; 2]
+fn word_of(code: u32) -> [u8; 2]
     ensures { λ r. ⌜ r ≡ verdictWord (verdictFrom code) ⌝ }
 {
     match code {

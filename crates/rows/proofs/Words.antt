@@ -10,8 +10,12 @@ use borrow.Author.Tests.{lt-ltb, le-ltb, le-leb, lt-leb}
 use Rattle.records.specs.Ledger.{has, nowhere}
 use Rattle.lists.specs.Lists.{bit}
 
+-- a word of n bits has none from n on
+pub has-over : (word n x : ℕ) → word < 2 ^ n → n ≤ x → has word x ≡ false
+has-over word n x h k = rw (div-eq-of-lt (lt-of-lt-of-le h (pow-mono k)))
+
 pub has-past : (word x : ℕ) → word < 2 ^ 64 → 64 ≤ x → has word x ≡ false
-has-past word x h k = rw (div-eq-of-lt (lt-of-lt-of-le h (pow-mono k)))
+has-past word x h k = has-over word 64 x h k
 
 -- a digit is the bit that says whether it is one
 pub digit-bit : (n : ℕ) → n < 2 → n ≡ bit (eqb n 1)

@@ -7,6 +7,7 @@ use lib.ListN.{length}
 use Rattle.lists.specs.Lists.{count}
 use Rattle.records.specs.Ledger.{has, named}
 use Rattle.records.specs.declared.Row.{Row}
+use Rattle.book.specs.Layout.{lowsFrom, highsFrom}
 
 -- the newest row of a name by its number, which is how many rows there are up to it; 0 where there is none
 unfoldable pub placeOf : List Row → ℕ → ℕ
@@ -19,3 +20,7 @@ madeWithin x after until r = has (r .keys) x && (ltb after (r .end) && leb (r .e
 
 unfoldable pub rowsWithin : List Row → ℕ → ℕ → ℕ → ℕ
 rowsWithin rows x after until = count (madeWithin x after until) rows
+
+-- where the half of the words of keys that has a key begins
+unfoldable pub halfFrom : ℕ → ℕ
+halfFrom x = cond (ltb x 32) lowsFrom highsFrom

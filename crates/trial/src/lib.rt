@@ -16,7 +16,7 @@ use rows::overtaken;
 
 // What the rules say of a commit at a line: ok, or the first that is broken of RC, BV, FV, SV and WC. Of the lines read, only the latest
 // matters as SV's y, since more versions lie before a later line.
-pub fn verdict_on(memory: &[u32; WORDS], line: u64, row: Row) -> Verdict
+pub fn verdict_on(memory: &[u32; WORDS], line: u32, row: Row) -> Verdict
     ensures { λ r. ⌜ r ≡ verdictOn (rowsIn (now (memory .entry))) (chain (seensIn (now (memory .entry))) (row .last)) line row ⌝ }
 {
     let y = latest(memory, row.last);
@@ -40,18 +40,18 @@ pub fn verdict_on(memory: &[u32; WORDS], line: u64, row: Row) -> Verdict
 }
 
 // A read names the one before it; a number that is not below its own ends the walk.
-fn earlier(number: u64, most: usize) -> usize
+fn earlier(number: u32, most: usize) -> usize
     ensures { λ r. ⌜ r ≡ among number most ⌝ }
 {
     let n = number as usize;
     if n <= most { n } else { 0 }
 }
 
-fn latest(memory: &[u32; WORDS], last: u64) -> u64
+fn latest(memory: &[u32; WORDS], last: u32) -> u32
     ensures { λ r. ⌜ r ≡ latestOf (chain (seensIn (now (memory .entry))) last) ⌝ }
 {
     let mut at = earlier(last, book::reads(memory));
-    let mut most: u64 = 0;
+    let mut most: u32 = 0;
     while 0 < at {
         let i = at - 1;
         most = later(most, memory[SEEN_LINES + i]);
@@ -60,20 +60,20 @@ fn latest(memory: &[u32; WORDS], last: u64) -> u64
     most
 }
 
-fn later(a: u64, b: u64) -> u64
+fn later(a: u32, b: u32) -> u32
     ensures { λ r. ⌜ r ≡ max a b ⌝ }
 {
     if a < b { b } else { a }
 }
 
-fn sooner(a: u64, b: u64) -> u64
+fn sooner(a: u32, b: u32) -> u32
     ensures { λ r. ⌜ r ≡ min a b ⌝ }
 {
     if a < b { a } else { b }
 }
 
 // The least of the ranks of the reads, against the latest line read.
-fn first_broken(memory: &[u32; WORDS], row: Row, y: u64) -> u8
+fn first_broken(memory: &[u32; WORDS], row: Row, y: u32) -> u8
     ensures { λ r. ⌜ r ≡ leastOf (rules (rowsIn (now (memory .entry))) row y) (chain (seensIn (now (memory .entry))) (row .last)) ⌝ }
 {
     let mut at = earlier(row.last, book::reads(memory));
@@ -102,7 +102,7 @@ fn lesser(a: u8, b: u8) -> u8
 }
 
 // The first rule that a read breaks. The versions between the start and the line read are its distance, either way.
-fn rank_of(memory: &[u32; WORDS], row: Row, y: u64, key: u64, line: u64) -> u8
+fn rank_of(memory: &[u32; WORDS], row: Row, y: u32, key: u32, line: u32) -> u8
     ensures { λ r. ⌜ ((b : ℕ) → r ≡ rankOf (rules (rowsIn (now (memory .entry))) row y) (record { key = key; line = line; before = b })) ⌝ }
 {
     if line == NOWHERE {
@@ -124,7 +124,7 @@ fn rank_of(memory: &[u32; WORDS], row: Row, y: u64, key: u64, line: u64) -> u8
 }
 
 // BV and FV by the distance, which is not negative where the line read is at or before the start, and not positive where it is after.
-fn far_by(row: Row, line: u64, n: u32) -> u8
+fn far_by(row: Row, line: u32, n: u32) -> u8
     ensures { λ r. ⌜ r ≡ farBy row line n ⌝ }
 {
     let b = row.bounds;

@@ -9,10 +9,10 @@ use Rattle.rows.proofs.find.Statement.{statement}
 use Rattle.rows.proofs.find.Tie as tie
 
 abbrev Inv-loop : tie.InvT-loop
-Inv-loop memory name word i₀ i = (i ≤ rowCount memory) × (placeOf (rowsOf memory i) name ≡ placeOf (rowsIn memory) name)
+Inv-loop memory name i₀ i = (i ≤ rowCount memory) × (placeOf (rowsOf memory i) name ≡ placeOf (rowsIn memory) name)
 
 abbrev μ-loop : tie.MeasureT-loop
-μ-loop memory name word i₀ i = i
+μ-loop memory name i₀ i = i
 
 rows-requires : tie.Need-rows-requires Inv-loop μ-loop
 rows-requires c κs = omega arith

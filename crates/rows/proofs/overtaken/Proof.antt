@@ -8,6 +8,7 @@ use Rattle.lists.specs.Lists as lists
 use Rattle.records.specs.Ledger.{overtakes}
 use Rattle.book.specs.Book.{rowsOf, rowCount}
 use Rattle.lists.proofs.Count.{bit-le, count-more, any-count}
+use Rattle.rows.proofs.Halves.{overtakes-word}
 use Rattle.rows.proofs.overtaken.Statement.{statement}
 use Rattle.rows.proofs.overtaken.Tie as tie
 
@@ -24,6 +25,27 @@ loop-holds : tie.Need-loop-holds Inv-loop μ-loop
 unfolding rowsOf lists.count
 loop-holds c = (omega arith, (c .rows .ensures, (omega arith, refl)))
 
+add-keys-of : tie.Need-add-keys-of Inv-loop μ-loop
+add-keys-of c = omega arith
+
+mul-keys-of : tie.Need-mul-keys-of Inv-loop μ-loop
+mul-keys-of c = omega arith
+
+element-copy-out-keys-of : tie.Need-element-copy-out-keys-of Inv-loop μ-loop
+element-copy-out-keys-of c = omega arith
+
+add-keys-of-2 : tie.Need-add-keys-of-2 Inv-loop μ-loop
+add-keys-of-2 c = omega arith
+
+mul-keys-of-2 : tie.Need-mul-keys-of-2 Inv-loop μ-loop
+mul-keys-of-2 c = omega arith
+
+element-copy-out-keys-of-2 : tie.Need-element-copy-out-keys-of-2 Inv-loop μ-loop
+element-copy-out-keys-of-2 c = omega arith
+
+keys-of-requires : tie.Need-keys-of-requires Inv-loop μ-loop
+keys-of-requires c κs = omega arith
+
 add-one-if-overtakes : tie.Need-add-one-if-overtakes Inv-loop μ-loop
 add-one-if-overtakes c = omega arith
 
@@ -32,15 +54,6 @@ mul-one-if-overtakes c = omega arith
 
 element-copy-out-one-if-overtakes : tie.Need-element-copy-out-one-if-overtakes Inv-loop μ-loop
 element-copy-out-one-if-overtakes c = omega arith
-
-add-one-if-overtakes-2 : tie.Need-add-one-if-overtakes-2 Inv-loop μ-loop
-add-one-if-overtakes-2 c = omega arith
-
-mul-one-if-overtakes-2 : tie.Need-mul-one-if-overtakes-2 Inv-loop μ-loop
-mul-one-if-overtakes-2 c = omega arith
-
-element-copy-out-one-if-overtakes-2 : tie.Need-element-copy-out-one-if-overtakes-2 Inv-loop μ-loop
-element-copy-out-one-if-overtakes-2 c = omega arith
 
 one-if-overtakes-requires : tie.Need-one-if-overtakes-requires Inv-loop μ-loop
 one-if-overtakes-requires c κs = omega arith
@@ -56,7 +69,7 @@ loop-less c = omega arith
 
 loop-again : tie.Need-loop-again Inv-loop μ-loop
 unfolding rowsOf
-loop-again c = (omega arith, (c .before .before .before .before .loop .inv .1 .0, (omega (arith, bit-le _ _ (c .one-if-overtakes .ensures)), rw (add-one (c .before .before .before .before .loop .i)) (count-more _ _ _ _ _ (c .before .before .before .before .loop .inv .1 .1 .1) (c .one-if-overtakes .ensures)))))
+loop-again c = (omega arith, (c .before .before .before .before .before .before .loop .inv .1 .0, (omega (arith, bit-le _ _ (c .one-if-overtakes .ensures)), rw (add-one (c .before .before .before .before .before .before .loop .i)) (count-more _ _ _ _ _ (c .before .before .before .before .before .before .loop .inv .1 .1 .1) (overtakes-word (now (c .before .before .before .before .before .before .before .before .args .memory)) (c .before .before .before .before .before .before .loop .i) _ _ (c .before .before .before .before .before .before .before .before .args .line) (c .before .before .before .before .before .before .before .before .args .row) (c .before .before .keys-of .ensures) (c .one-if-overtakes .ensures))))))
 
 returns : tie.Need-returns Inv-loop μ-loop
 returns c = let e : c .before .loop .i ≡ rowCount (now (c .before .before .before .args .memory)) = omega arith in rw (← e) (any-count _ _ _ (c .before .loop .inv .1 .1 .1))
@@ -69,12 +82,16 @@ overtaken-spec =
     μ-loop
     rows-requires
     loop-holds
+    add-keys-of
+    mul-keys-of
+    element-copy-out-keys-of
+    add-keys-of-2
+    mul-keys-of-2
+    element-copy-out-keys-of-2
+    keys-of-requires
     add-one-if-overtakes
     mul-one-if-overtakes
     element-copy-out-one-if-overtakes
-    add-one-if-overtakes-2
-    mul-one-if-overtakes-2
-    element-copy-out-one-if-overtakes-2
     one-if-overtakes-requires
     add-n
     add-i
