@@ -1,8 +1,11 @@
 -- What the memory after a record stands for is what the step of the meaning makes of what it stood for before.
-use Prim.Native.Nat.{ℕ, zero, suc, _-_, _%_, _<_, _≤_}
+use Prim.Native.Nat.{ℕ, zero, suc, _-_, _%_, _<_, _≤_, _^_}
 use native.Mathlib.Decide.{decLt}
 use native.Mathlib.Nat.{mod-eq-of-lt}
 use native.Mathlib.Omega.{arith}
+use native.Mathlib.Nat.{mod-lt}
+use lib.Bits.{or-lt}
+use lib.Pow.{pow-lt}
 use mathlib.Core.Path.{_≡_, refl, sym, _∙_, ap, subst}
 use mathlib.Core.Bool.{Bool, true, false, cond, false≢true}
 use mathlib.Core.List.{List, [], _∷_}
@@ -46,15 +49,15 @@ tidy-name (Abort t) = refl
 changed-fits : (line n : ℕ) (e : Record) (r : Row) → Bounded e → Fits r → Fits (changed line n (tidy e) r)
 unfolding changed
 changed-fits line n (Start t) r b f = f
-changed-fits line n (Tune t k) r b f = record { k1 = b .k1; k2 = b .k2; k3 = b .k3 }
+changed-fits line n (Tune t k) r b f = record { keys = f .keys; k1 = b .k1; k2 = b .k2; k3 = b .k3 }
 changed-fits line n (Read t x w) r b f = go (isRecorded r x w)
   where
     go : (c : Bool) → Fits (cond c (record { name = r .name; start = r .start; end = r .end; keys = r .keys; bounds = r .bounds; last = suc n }) r)
-    go true = record { k1 = f .k1; k2 = f .k2; k3 = f .k3 }
+    go true = record { keys = f .keys; k1 = f .k1; k2 = f .k2; k3 = f .k3 }
     go false = f
-changed-fits line n (Write t x) r b f = record { k1 = f .k1; k2 = f .k2; k3 = f .k3 }
-changed-fits line n (Commit t) r b f = record { k1 = f .k1; k2 = f .k2; k3 = f .k3 }
-changed-fits line n (Abort t) r b f = record { k1 = f .k1; k2 = f .k2; k3 = f .k3 }
+changed-fits line n (Write t x) r b f = record { keys = or-lt 64 (r .keys) (2 ^ (x % 64)) (f .keys) (pow-lt (mod-lt x (omega arith))); k1 = f .k1; k2 = f .k2; k3 = f .k3 }
+changed-fits line n (Commit t) r b f = record { keys = f .keys; k1 = f .k1; k2 = f .k2; k3 = f .k3 }
+changed-fits line n (Abort t) r b f = record { keys = f .keys; k1 = f .k1; k2 = f .k2; k3 = f .k3 }
 
 -- a row stored at the number of a name, in a memory that stands for a ledger
 stored-after : (ms : List ℕ) → length ms ≡ wordCount → {l : Ledger} → ledgerOf ms ≡ l → (x : ℕ) (q : Row) → Fits q → 0 < placeOf (l .rows) x
@@ -156,7 +159,7 @@ module _ (ws : List ℕ) (line : ℕ) (whole : length ws ≡ wordCount) where
   begins t =
       rw (rows-length ws (rowCount ws))
       (came-begun ws (rowAdded ws (freshRow line t)) _ (any (named t) (rowsIn ws)) (leb 512 (rowCount ws))
-      (λ e. row-added-ledger ws (freshRow line t) whole (omega (arith, leb-false 512 (rowCount ws) e)) (record { k1 = omega arith; k2 = omega arith; k3 = omega arith })))
+      (λ e. row-added-ledger ws (freshRow line t) whole (omega (arith, leb-false 512 (rowCount ws) e)) (record { keys = omega arith; k1 = omega arith; k2 = omega arith; k3 = omega arith })))
 
   -- any other record; where its row is open there is room for a verdict
   moves : (e : Record) → readCount ws < 4096 → (isOpen (rowOf (rowsIn ws) (nameOf e)) ≡ true → verdictCount ws < 512) → Bounded e

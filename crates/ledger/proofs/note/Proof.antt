@@ -1,4 +1,5 @@
 -- `note` meets its contract: the read is put behind the others and becomes the row's last, or is no record.
+use native.Mathlib.Omega.{arith}
 use Rattle.ledger.proofs.Cases.{note-some, note-none}
 use borrow.Author.Needs.{needs}
 use Rattle.ledger.proofs.note.Statement.{statement}
@@ -18,6 +19,9 @@ add-read-requires c κs = search needs
 
 add-row : tie.Need-add-row
 add-row c = search needs
+
+cast-row : tie.Need-cast-row
+cast-row c = omega (arith, c .before .before .before .before .reads .ensures)
 
 store-row-requires : tie.Need-store-row-requires
 store-row-requires c κs = search needs
@@ -41,6 +45,7 @@ note-spec =
     resolve-requires
     add-read-requires
     add-row
+    cast-row
     store-row-requires
     returns
     store-row-requires-2
