@@ -156,11 +156,18 @@ module _ {M : Type 1} (𝓤 : URA M) (H : Heap 𝓤) (A : Atoms 𝓤) (W : Given
   again : (n : ℕ) → n < 2 ^ 64 → ent 𝓤 (sem 𝓤 H A Own) (sem 𝓤 H A (B .own (record { text = h .text; at = n }) (T′.lowered (record { text = h .text; at = n }) ∷ [])))
   again n ok = qed W (‵ Own ∷ []) ∵ owned ! usize (Is usize) (uint-makes 𝓤 H A W w64) n _ (refl, ok) $ move ! (1 ∷ 0 ∷ []) $ by ! (own-put 𝓤 H A W D laws 1 fields n mach)
 
+  -- the reader as it is left, and that it stands behind the line
+  abbrev last : Line → Reader
+  last l = movedBy l h
+
+  stands : (l : Line) → last l ≡ movedBy l h
+  stands l = refl
+
   exits : (l : Line) → Said l (h .text) (h .at) → Is L.the-row l (lv l ∷ [])
-      → ent 𝓤 (⋆ 𝓤 H A (‵ (fobs γ (B .coded .code (movedBy l h))) ∷ ‵ (fbor κ (Body (mem B) b o γ)) ∷ ‵ (flft κ q) ∷ (‵ (flft κ′ q′) ⊛ ‵ ftrue) ∷ [])) (Post (lv l))
+      → ent 𝓤 (⋆ 𝓤 H A (‵ (fobs γ (B .coded .code (last l))) ∷ ‵ (fbor κ (Body (mem B) b o γ)) ∷ ‵ (flft κ q) ∷ (‵ (flft κ′ q′) ⊛ ‵ ftrue) ∷ [])) (Post (lv l))
   exits l e is =
-      qed W (‵ (fobs γ (B .coded .code (movedBy l h))) ∷ ‵ (fbor κ (Body (mem B) b o γ)) ∷ ‵ (flft κ q) ∷ (‵ (flft κ′ q′) ⊛ ‵ ftrue) ∷ []) ∵
-      suffices ! _ (ends-at 𝓤 H A f.ended stayed (f.clauses 𝓤 H A at-mem run) W (((κ, (κ′, tt)), (q, (q′, tt)), bounds, x, at), tt) (lv l) l (movedBy l h, tt) (tt, tt)) $ suffices ! _ (beside 𝓤 e refl) $
+      qed W (‵ (fobs γ (B .coded .code (last l))) ∷ ‵ (fbor κ (Body (mem B) b o γ)) ∷ ‵ (flft κ q) ∷ (‵ (flft κ′ q′) ⊛ ‵ ftrue) ∷ []) ∵
+      suffices ! _ (ends-at 𝓤 H A f.ended stayed (f.clauses 𝓤 H A at-mem run) W (((κ, (κ′, tt)), (q, (q′, tt)), bounds, x, at), tt) (lv l) l (last l, tt) (tt, tt)) $ suffices ! _ (beside 𝓤 e (stands l)) $
       move ! (2 ∷ 3 ∷ []) $ join ! $ frame ! $ feqI ! (List Val) (vptr b o ∷ []) (vptr b o ∷ []) refl $ fjoin3 ! $ nothing ! $ move ! (1 ∷ 0 ∷ []) $ fjoin ! $
       owned ! L.the-row (Is L.the-row) (EL.makes L.the-type L′.the-plain 𝓤 H A) l _ is $ move ! (1 ∷ 0 ∷ []) $ done !
 
@@ -196,9 +203,9 @@ module _ {M : Type 1} (𝓤 : URA M) (H : Heap 𝓤) (A : Atoms 𝓤) (W : Given
         land ! (from ! (stop !)) (store ! 9 refl (uint-lawful 𝓤 H A W w64 .typed r _ is .0)) $ rewrite ! 9 (λ (z : Val). ‵ (fat fullShare (tyInt w64) l₄ 0 z)) (ap only (is .0)) refl $ rewrite ! 9 (λ (m : ℕ). ‵ (fat fullShare (tyInt w64) l₄ 0 (vint w64 m))) e refl $
         assigns ! (of-opd ! (load ! (from ! (stop !)) (look ! 9 refl))) (from ! (hop ! (look ! 15 refl) (fld ! refl (stop !)))) (store-in ! 2 (sub ! 1 refl (whole !)) (tt, record { fits = subst (λ (m : ℕ). m < 2 ^ 64) e (is .1) })) $
         assigns ! (of-opd ! (load ! (from ! (stop !)) (look ! 13 refl))) (from ! (stop !)) (init ! 17 refl (EL.lawful L.the-type L′.the-laws 𝓤 H A W tt .typed l _ (subst (λ (vs : List Val). Is L.the-row l vs) (EL.tells L.the-type L′.the-laws l _ il) il) .0)) $
-        move ! (1 ∷ []) $ use1 W (‵ (B .own (movedBy l h) (T′.lowered (movedBy l h) ∷ []))) (again (placeAfter l (h .at)) (subst (λ (m : ℕ). m < 2 ^ 64) e (is .1))) $
-        move ! (2 ∷ []) $ use1 W (‵ (cellAt fullShare (B .mir) (T′.lowered (movedBy l h) ∷ []) b o)) (W .laws .at-raw fullShare (T′.mir erased) b o (T′.lowered (movedBy l h))) $
-        move ! (0 ∷ 1 ∷ 3 ∷ 4 ∷ 5 ∷ []) $ closes ! tt B (movedBy l h) (T′.lowered (movedBy l h) ∷ []) b o $
+        move ! (1 ∷ []) $ use1 W (‵ (B .own (last l) (T′.lowered (last l) ∷ []))) (again (placeAfter l (h .at)) (subst (λ (m : ℕ). m < 2 ^ 64) e (is .1))) $
+        move ! (2 ∷ []) $ use1 W (‵ (cellAt fullShare (B .mir) (T′.lowered (last l) ∷ []) b o)) (W .laws .at-raw fullShare (T′.mir erased) b o (T′.lowered (last l))) $
+        move ! (0 ∷ 1 ∷ 3 ∷ 4 ∷ 5 ∷ []) $ closes ! tt B (last l) (T′.lowered (last l) ∷ []) b o $
         -- [obs; the borrow; the token of 's; the token of 'a; …; the locals]
         returns ! (look ! 15 refl) $ forget ! 5 refl $ forget ! 7 refl $ forget ! 9 refl $ forget ! 11 refl $ forget ! 13 refl $ forget ! 15 refl $
         move ! (15 ∷ 16 ∷ []) $ free1 ! $ move ! (13 ∷ 14 ∷ []) $ free1 ! $ move ! (11 ∷ 12 ∷ []) $ free1 ! $ move ! (9 ∷ 10 ∷ []) $ free1 ! $ move ! (7 ∷ 8 ∷ []) $ free1 ! $ move ! (5 ∷ 6 ∷ []) $ free1 ! $ free0 ! $
