@@ -1,4 +1,6 @@
--- `raise` meets its contract: a walk of its MIR, by hand. At the match the walk goes by cases on the record. In each arm that raises, the totals are lent on for a lifetime of the call.
+-- `raise` meets its contract: a walk of its MIR, by hand.
+-- At the match the walk goes by cases on the record.
+-- In each arm that raises, the totals are lent on for a lifetime of the call.
 use mathlib.Core.Path.{_≡_, refl, sym, ap, subst}
 use Prim.Native.Nat.{ℕ, zero, suc}
 use mathlib.Core.List.{List, [], _∷_}
