@@ -1,4 +1,3 @@
 pub mod Cases
-pub mod Push
-pub mod Meant
+pub mod After
 pub mod Determined

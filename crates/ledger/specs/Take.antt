@@ -1,10 +1,10 @@
 -- What a record at a line does to the judge's memory, exactly: the reply, and every word.
-use Prim.Native.Nat.{ℕ, _-_, _%_}
-use mathlib.Core.Bool.{cond, _&&_}
+use Prim.Native.Nat.{ℕ, _-_, _%_, _<_}
+use mathlib.Core.Bool.{cond}
 use mathlib.Core.List.{List, [], _∷_}
 use Rattle.units.specs.Refusal.{numberOf}
-use Rattle.records.specs.Parts.{partsOf, nameOf, starts, isReading, isWriting}
-use Rattle.records.specs.Ledger.{Outcome, refused, went, rowOf, freshRow, isRecorded, changed, noted, concluded, lineStep}
+use Rattle.records.specs.Parts.{partsOf, nameOf, starts, isWriting}
+use Rattle.records.specs.Ledger.{Outcome, refused, went, rowOf, freshRow, changed, noted, concluded, lineStep}
 use Rattle.records.specs.declared.Record.{Record}
 use Rattle.records.specs.declared.Record.the-variants.{Write}
 use Rattle.records.specs.declared.Row.{Row}
@@ -14,16 +14,10 @@ use Rattle.book.specs.Book.{ledgerOf, rowsIn, seensIn, readCount, rowAdded, row
 use Rattle.rows.specs.Table.{placeOf}
 use Rattle.ledger.specs.declared.Taken.{Taken}
 use Rattle.ledger.specs.declared.Taken.the-variants.{Refused, Went}
-use Rattle.ledger.specs.declared.Request.{Request}
-use Rattle.ledger.specs.declared.Request.the-variants.{Recorded, Nothing}
 
 -- "Keys are 0 to 63": a written key past them, which no history has, is taken by its remainder, so that it has a bit in the word
 abbrev pub tidy : Record → Record
 tidy e = cond (isWriting e) (Write (nameOf e) (partsOf e .key % 64)) e
-
--- the read that a record asks to be recorded
-abbrev pub asked : Record → Row → Request
-asked e r = cond (isReading e && isRecorded r (partsOf e .key) (partsOf e .source)) (Recorded (partsOf e .key) (partsOf e .source)) Nothing
 
 -- the reply in document 01's numbers: a refusal, or that the record is taken
 pub data TakeReply : Type 0 where
@@ -48,12 +42,12 @@ unfoldable pub judgedPushed : List ℕ → List Judged → List ℕ
 judgedPushed ws [] = ws
 judgedPushed ws (j ∷ js) = judgedAdded ws j
 
--- any record but a start: its commit concluded, its read noted, its row changed at its number
+-- any record but a start: its commit concluded, its read noted, its row changed at its place
 unfoldable pub settled : List ℕ → ℕ → Record → ℕ → Row → List ℕ
-settled ws line e number r =
+settled ws line e place r =
     rowStored
     (seenPushed (judgedPushed ws (concluded line (rowsIn ws) (seensIn ws) e r [])) (noted (rowsIn ws) e r []))
-    (number - 1)
+    place
     (changed line (readCount ws) (tidy e) r)
 
 -- a refusal leaves every word as it was
@@ -67,9 +61,15 @@ booked ws line e =
     onReply (replyTo (lineStep line e (ledgerOf ws))) ws
     (cond (starts e)
     (rowAdded ws (freshRow line (nameOf e)))
-    (settled ws line e (placeOf (rowsIn ws) (nameOf e)) (rowOf (rowsIn ws) (nameOf e))))
+    (settled ws line e (placeOf (rowsIn ws) (nameOf e) - 1) (rowOf (rowsIn ws) (nameOf e))))
 
 -- what the reply and the words after it come to in the judge's own terms
 abbrev pub cameTo : TakeReply → List ℕ → Outcome
 cameTo (refusedWith n) ws = refused n
 cameTo wentOn ws = went (ledgerOf ws)
+
+-- a record whose bounds have 16 bits, as the code's have
+pub record Bounded (e : Record) : Type 0 where
+  pub k1 : partsOf e .bounds .k1 < 65536
+  pub k2 : partsOf e .bounds .k2 < 65536
+  pub k3 : partsOf e .bounds .k3 < 65536

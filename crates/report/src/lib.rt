@@ -6,7 +6,7 @@ ghost use lib.ListN.{length};
 ghost use Rattle.decimal.specs.Text.{decimal};
 ghost use Rattle.decimal.specs.Write.{put, Puts};
 ghost use Rattle.records.specs.Order.{verdictFrom};
-ghost use Rattle.book.specs.Book.{judgedAt, judgedIn, judgedOf};
+ghost use Rattle.book.specs.Book.{judgedIn, judgedOf};
 ghost use Rattle.report.specs.Report.{verdictWord, headLine, verdictLine, verdictLines, totalLine, reportText, refusedText};
 ghost use Rattle.report.specs.Write.{writtenReply, writtenAs};
 use book::JUDGED_CODES;

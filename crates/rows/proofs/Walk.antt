@@ -1,16 +1,19 @@
--- A walk over the rows in their columns: what one row more, or one less, tells.
-use Prim.Native.Nat.{ℕ, zero, suc, _-_, _≤_, _<_}
+-- A walk over the rows of the memory: what one row more, or one less, tells.
+use Prim.Native.Nat.{ℕ, zero, suc, _+_, _-_, _≤_, _<_}
 use native.Mathlib.Omega.{arith}
-use mathlib.Core.Path.{_≡_, refl, sym, ap}
+use mathlib.Core.Path.{_≡_, refl, sym}
 use mathlib.Core.Bool.{Bool, true, false, cond, _||_}
 use mathlib.Core.List.{List, [], _∷_}
 use lib.Dec.{ltb}
 use lib.ListN.{length, getD}
-use borrow.Author.Tests.{lt-ltb, le-ltb, eq-eqb, ne-eqb}
+use borrow.Author.Tests.{lt-ltb, eq-eqb, ne-eqb}
 use Rattle.lists.specs.Lists.{any}
-use Rattle.records.specs.Ledger.{rowOf, named, noRow}
+use Rattle.records.specs.Ledger.{rowOf, named}
 use Rattle.records.specs.declared.Row.{Row}
-use Rattle.rows.specs.Table.{Table, table, withNames, rowAt, rowsOf, placeOf, loaded}
+use Rattle.book.specs.Layout.{namesFrom}
+use Rattle.book.specs.Book.{rowAt, rowsOf, rowsIn, rowCount, rowLoaded}
+use Rattle.book.proofs.Laws.{rows-length}
+use Rattle.rows.specs.Table.{placeOf}
 
 pub place-le : (l : List Row) (x : ℕ) → placeOf l x ≤ length l
 unfolding placeOf
@@ -31,61 +34,40 @@ any-named (r ∷ rs) x = go (named x r) (any-named rs x)
     go true h = sym (lt-ltb 0 (suc (length rs)) (omega arith))
     go false h = h
 
-module _ (t : Table) where
-  pub rows-length : (n : ℕ) → length (rowsOf t n) ≡ n
-  unfolding rowsOf
-  rows-length zero = refl
-  rows-length (suc n) = ap suc (rows-length n)
-
-  pub rows-back : (i : ℕ) → 0 < i → rowsOf t i ≡ rowAt t (i - 1) ∷ rowsOf t (i - 1)
+module _ (ws : List ℕ) where
+  rows-back : (i : ℕ) → 0 < i → rowsOf ws i ≡ rowAt ws (i - 1) ∷ rowsOf ws (i - 1)
   unfolding rowsOf
   rows-back zero h = absurd (omega arith)
   rows-back (suc n) h = let e : suc n - 1 ≡ n = omega arith in rw e
 
   module _ (x : ℕ) where
-    pub place-within : (n : ℕ) → placeOf (rowsOf t n) x ≤ n
-    place-within n = omega (arith, place-le (rowsOf t n) x, rows-length n)
+    pub place-within : (n : ℕ) → placeOf (rowsOf ws n) x ≤ n
+    place-within n = omega (arith, place-le (rowsOf ws n) x, rows-length ws n)
 
     -- from the newest end, i - 1 is the place looked at, and what is not yet looked at answers w
-    module _ (i w : ℕ) (a : placeOf (rowsOf t i) x ≡ w) where
+    module _ (i w : ℕ) (a : placeOf (rowsOf ws i) x ≡ w) where
       pub place-over : i ≤ 0 → 0 ≡ w
       unfolding placeOf rowsOf
       place-over h = let z : i ≡ 0 = omega arith in rw z at a
 
-      pub place-hit : 0 < i → getD (t .names) (i - 1) 0 ≡ x → i ≡ w
+      pub place-hit : 0 < i → getD ws (namesFrom + (i - 1)) 0 ≡ x → i ≡ w
       unfolding placeOf
-      place-hit h e = let b : suc (length (rowsOf t (i - 1))) ≡ w = rw (rows-back i h, eq-eqb _ _ e) at a in omega (arith, rows-length (i - 1))
+      place-hit h e = let b : suc (length (rowsOf ws (i - 1))) ≡ w = rw (rows-back i h, eq-eqb _ _ e) at a in omega (arith, rows-length ws (i - 1))
 
-      pub place-miss : 0 < i → (getD (t .names) (i - 1) 0 ≡ x → ⊥) → placeOf (rowsOf t (i - 1)) x ≡ w
+      pub place-miss : 0 < i → (getD ws (namesFrom + (i - 1)) 0 ≡ x → ⊥) → placeOf (rowsOf ws (i - 1)) x ≡ w
       unfolding placeOf
       place-miss h e = rw (rows-back i h, ne-eqb _ _ e) at a
 
     -- the newest row of a name is the row of its number
-    pub row-of : (n : ℕ) → n ≤ 512 → rowOf (rowsOf t n) x ≡ loaded t (placeOf (rowsOf t n) x)
-    unfolding rowOf placeOf rowsOf loaded
-    row-of zero h = refl
-    row-of (suc n) h = go (named x (rowAt t n)) (row-of n (omega arith))
+    row-of-first : (n : ℕ) → n ≤ 512 → rowOf (rowsOf ws n) x ≡ rowLoaded ws (placeOf (rowsOf ws n) x)
+    unfolding rowOf placeOf rowsOf rowLoaded
+    row-of-first zero h = refl
+    row-of-first (suc n) h = go (named x (rowAt ws n)) (row-of-first n (omega arith))
       where
-        go : (b : Bool) → rowOf (rowsOf t n) x ≡ loaded t (placeOf (rowsOf t n) x)
-            → cond b (rowAt t n) (rowOf (rowsOf t n) x) ≡ loaded t (cond b (suc (length (rowsOf t n))) (placeOf (rowsOf t n) x))
-        go true r = rw (rows-length n, lt-ltb n 512 (omega arith))
+        go : (b : Bool) → rowOf (rowsOf ws n) x ≡ rowLoaded ws (placeOf (rowsOf ws n) x)
+            → cond b (rowAt ws n) (rowOf (rowsOf ws n) x) ≡ rowLoaded ws (cond b (suc (length (rowsOf ws n))) (placeOf (rowsOf ws n) x))
+        go true r = rw (rows-length ws n, lt-ltb n 512 (omega arith))
         go false r = r
 
-  -- the row of a number: 0, that of a place, one past the last place
-  pub load-none : (n : ℕ) {r : Row} → n ≡ 0 → r ≡ noRow → r ≡ loaded t n
-  unfolding loaded
-  load-none n e f = rw e f
-
-  pub load-at : (n : ℕ) → 0 < n → n - 1 < 512 → rowAt t (n - 1) ≡ loaded t n
-  unfolding loaded
-  load-at zero h k = absurd (omega arith)
-  load-at (suc i) h k = let e : suc i - 1 ≡ i = omega arith in rw (e, lt-ltb i 512 (omega arith))
-
-  pub load-past : (n : ℕ) {r : Row} → 512 < n → r ≡ noRow → r ≡ loaded t n
-  unfolding loaded
-  load-past zero h f = absurd (omega arith)
-  load-past (suc i) h f = rw (le-ltb i 512 (omega arith)) f
-
--- a number that is found is one of the rows
-pub number-le : (names : List ℕ) (m x n : ℕ) → ((t : Table) → n ≡ placeOf (rowsOf (withNames t names) m) x) → n ≤ m
-number-le names m x n f = let t = table [] [] [] [] [] [] [] [] in rw (f t) (place-within (withNames t names) x m)
+    pub row-of : rowOf (rowsIn ws) x ≡ rowLoaded ws (placeOf (rowsIn ws) x)
+    row-of = row-of-first (rowCount ws) (omega arith)

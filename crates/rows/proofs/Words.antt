@@ -6,7 +6,7 @@ use mathlib.Core.Path.{_≡_, refl}
 use mathlib.Core.Bool.{Bool, true, false, cond, _&&_}
 use lib.Dec.{eqb, leb, ltb}
 use lib.Pow.{pow-mono}
-use borrow.Author.Tests.{lt-ltb, le-ltb, le-leb, lt-leb, ltb-false}
+use borrow.Author.Tests.{lt-ltb, le-ltb, le-leb, lt-leb}
 use Rattle.records.specs.Ledger.{has, nowhere}
 use Rattle.lists.specs.Lists.{bit}
 
@@ -23,47 +23,68 @@ digit-bit (suc (suc n)) h = absurd (omega arith)
 pub has-bit : (word x : ℕ) → word / 2 ^ x % 2 ≡ bit (has word x)
 has-bit word x = digit-bit (word / 2 ^ x % 2) (mod-lt (word / 2 ^ x) (omega arith))
 
+-- the bit says the test again
+pub bit-one : (b : Bool) (n : ℕ) → n ≡ bit b → eqb n 1 ≡ b
+unfolding bit
+bit-one true n e = rw e
+bit-one false n e = rw e
+
+-- a test that fails makes 0, two that hold leave the word's answer
+pub outside-first : (a b : Bool) → 0 ≡ bit (a && (false && b))
+unfolding bit
+outside-first true b = refl
+outside-first false b = refl
+
+pub outside-second : (a b : Bool) → 0 ≡ bit (a && (b && false))
+unfolding bit
+outside-second true true = refl
+outside-second true false = refl
+outside-second false b = refl
+
+pub inside : (b : Bool) → bit b ≡ bit (b && true)
+unfolding bit
+inside true = refl
+inside false = refl
+
 -- a commit outside the lines asked for counts 0, one inside them as the word says
 module _ (word x e after until : ℕ) where
   pub within-early : e ≤ after → 0 ≡ bit (has word x && (ltb after e && leb e until))
-  unfolding bit
-  within-early h = rw (le-ltb after e h) (go (has word x))
+  within-early h = rw (le-ltb after e h) (outside-first (has word x) (leb e until))
+
+  pub within-late : until < e → 0 ≡ bit (has word x && (ltb after e && leb e until))
+  within-late h = rw (lt-leb e until h) (outside-second (has word x) (ltb after e))
+
+  pub within-both : after < e → e ≤ until → bit (has word x) ≡ bit (has word x && (ltb after e && leb e until))
+  within-both h k = rw (lt-ltb after e h, le-leb e until k) (inside (has word x))
+
+  pub between-early : e ≤ after → 0 ≡ bit (has word x && (ltb after e && ltb e until))
+  between-early h = rw (le-ltb after e h) (outside-first (has word x) (ltb e until))
+
+  pub between-late : until ≤ e → 0 ≡ bit (has word x && (ltb after e && ltb e until))
+  between-late h = rw (le-ltb e until h) (outside-second (has word x) (ltb after e))
+
+  pub between-both : after < e → e < until → bit (has word x) ≡ bit (has word x && (ltb after e && ltb e until))
+  between-both h k = rw (lt-ltb after e h, lt-ltb e until k) (inside (has word x))
+
+-- the line of a version: none of a word without the key or of an end that is no commit line
+module _ (word x e : ℕ) where
+  pub line-none : has word x ≡ false → nowhere ≡ cond (has word x && (ltb 0 e && ltb e nowhere)) e nowhere
+  line-none h = rw h
+
+  pub line-open : e ≡ 0 → nowhere ≡ cond (has word x && (ltb 0 e && ltb e nowhere)) e nowhere
+  line-open h = rw h (go (has word x))
     where
-      go : (b : Bool) → 0 ≡ bit (b && false)
+      go : (b : Bool) → nowhere ≡ cond (b && false) 0 nowhere
       go true = refl
       go false = refl
 
-  pub within-late : until < e → 0 ≡ bit (has word x && (ltb after e && leb e until))
-  unfolding bit
-  within-late h = rw (lt-leb e until h) (go (has word x) (ltb after e))
+  pub line-past : nowhere ≤ e → nowhere ≡ cond (has word x && (ltb 0 e && ltb e nowhere)) e nowhere
+  line-past h = rw (le-ltb e nowhere h) (go (has word x) (ltb 0 e))
     where
-      go : (a b : Bool) → 0 ≡ bit (a && (b && false))
+      go : (a b : Bool) → nowhere ≡ cond (a && (b && false)) e nowhere
       go true true = refl
       go true false = refl
       go false b = refl
 
-  pub within-both : after < e → e ≤ until → bit (has word x) ≡ bit (has word x && (ltb after e && leb e until))
-  unfolding bit
-  within-both h k = rw (lt-ltb after e h, le-leb e until k) (go (has word x))
-    where
-      go : (b : Bool) → bit b ≡ bit (b && true)
-      go true = refl
-      go false = refl
-
--- the line of a version: none of a word without the key or of an end that is no commit line
-pub line-none : (word x e : ℕ) → has word x ≡ false → nowhere ≡ cond (has word x && (ltb 0 e && ltb e nowhere)) e nowhere
-line-none word x e h = rw h
-
-pub line-open : (word x e : ℕ) → e ≡ 0 → nowhere ≡ cond (has word x && (ltb 0 e && ltb e nowhere)) e nowhere
-line-open word x e h = rw h (go (has word x))
-  where
-    go : (b : Bool) → nowhere ≡ cond (b && false) 0 nowhere
-    go true = refl
-    go false = refl
-
-pub line-end : (word x e : ℕ) → e < 2 ^ 32 → has word x ≡ true → (e ≡ 0 → ⊥) → e ≡ cond (has word x && (ltb 0 e && ltb e nowhere)) e nowhere
-line-end word x e fits h some = rw (h, lt-ltb 0 e (omega arith)) (go (ltb e nowhere) refl)
-  where
-    go : (b : Bool) → ltb e nowhere ≡ b → e ≡ cond b e nowhere
-    go true f = refl
-    go false f = omega (arith, ltb-false e nowhere f)
+  pub line-end : has word x ≡ true → (e ≡ 0 → ⊥) → e < nowhere → e ≡ cond (has word x && (ltb 0 e && ltb e nowhere)) e nowhere
+  line-end h some k = rw (h, lt-ltb 0 e (omega arith), lt-ltb e nowhere k)

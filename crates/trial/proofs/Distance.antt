@@ -1,13 +1,13 @@
 -- BV and FV without signed numbers: the distance of a read is the number of versions between the start and the line read.
-use Prim.Native.Nat.{ℕ, zero, suc, _+_, _-_, _≤_, _<_}
+use Prim.Native.Nat.{ℕ, zero, suc, _+_, _-_, _≤_, _<_, min, max}
 use native.Mathlib.Omega.{arith}
 use mathlib.Core.Path.{_≡_, refl, _∙_, ap}
 use mathlib.Core.Bool.{Bool, true, false, cond, _&&_, not}
 use mathlib.Core.List.{List}
-use lib.Dec.{leb, ltb, leb·zero}
+use lib.Dec.{eqb, leb, ltb, leb·zero}
 use lib.IntN.{ℤ, pos, negsuc, negℤ, _-ℤ_}
 use lib.Signed.{ltZ, leZ}
-use borrow.Author.Tests.{ltb-false, leb-true, leb-false, lt-ltb, le-ltb, le-leb, lt-leb}
+use borrow.Author.Tests.{eqb-true, eqb-false, ltb-true, ltb-false, leb-true, leb-false, lt-ltb, le-ltb, le-leb, lt-leb}
 use Rattle.lists.specs.Lists.{bit}
 use Rattle.lists.proofs.Every.{every-each}
 use Rattle.lists.proofs.Count.{count-both}
@@ -15,7 +15,7 @@ use Rattle.records.specs.Ledger.{has, rowsUpTo, madeUpTo}
 use Rattle.records.specs.declared.Row.{Row}
 use Rattle.records.specs.declared.Seen.{Seen}
 use Rattle.rows.specs.Table.{rowsWithin, madeWithin}
-use Rattle.trial.specs.Trial.{farOf}
+use Rattle.trial.specs.Trial.{farOf, farBy}
 
 module _ (low high : ℕ) (h : low ≤ high) where
   one : (b : Bool) (e : ℕ) (l : Bool) → leb e low ≡ l → (k : Bool) → leb e high ≡ k → (z : Bool) → ltb 0 e ≡ z
@@ -65,6 +65,13 @@ module _ (a b w k1 k2 : ℕ) where
     unfolding far
     behind-fresh h = rw (behind, lt-ltb w k1 h, never-early w k2)
 
+    behind-far : cond (leb k1 w) 1 4 ≡ far (pos a -ℤ pos b) k1 k2
+    behind-far = go (leb k1 w) refl
+      where
+        go : (t : Bool) → leb k1 w ≡ t → cond t 1 4 ≡ far (pos a -ℤ pos b) k1 k2
+        go true f = behind-stale (leb-true k1 w f)
+        go false f = behind-fresh (leb-false k1 w f)
+
   module _ (e : b ≡ a + w) where
     ahead-early : k2 < w → 2 ≡ far (pos a -ℤ pos b) k1 k2
     unfolding far
@@ -82,38 +89,40 @@ module _ (a b w k1 k2 : ℕ) where
     unfolding far
     ahead-near z h = rw (shortfall a b (omega arith), le-leb (suc (b - suc a)) k2 (omega arith))
 
--- n versions lie between the start and the line read
+    ahead-far : cond (ltb k2 w) 2 (cond (eqb w 0 && eqb k1 0) 1 4) ≡ far (pos a -ℤ pos b) k1 k2
+    ahead-far = go (ltb k2 w) refl (eqb w 0) refl (eqb k1 0) refl
+      where
+        go : (t : Bool) → ltb k2 w ≡ t → (u : Bool) → eqb w 0 ≡ u → (v : Bool) → eqb k1 0 ≡ v → cond t 2 (cond (u && v) 1 4) ≡ far (pos a -ℤ pos b) k1 k2
+        go true f u g v h = ahead-early (ltb-true k2 w f)
+        go false f true g true h = ahead-stale (eqb-true w 0 g) (eqb-true k1 0 h)
+        go false f true g false h = ahead-even (eqb-true w 0 g) (eqb-false k1 0 h)
+        go false f false g v h = ahead-near (eqb-false w 0 g) (ltb-false k2 w f)
+
+-- BV and FV by n, the versions between the start and the line read
 module _ (rows : List Row) (r : Row) (s : Seen) (n : ℕ) where
-  -- at or before the start
-  module _ (h : s .line ≤ r .start) (e : n ≡ rowsWithin rows (s .key) (s .line) (r .start)) where
-    sum : rowsUpTo rows (s .key) (r .start) ≡ rowsUpTo rows (s .key) (s .line) + n
-    sum = rw e (up-to-more (s .line) (r .start) h rows (s .key))
+  old : s .line ≤ r .start → n ≡ rowsWithin rows (s .key) (s .line) (r .start) → farBy r (s .line) n ≡ farOf rows r s
+  unfolding farBy farOf far
+  old h e =
+      let sum : rowsUpTo rows (s .key) (r .start) ≡ rowsUpTo rows (s .key) (s .line) + n = rw e (up-to-more (s .line) (r .start) h rows (s .key)) in
+      rw (le-leb (s .line) (r .start) h) (behind-far _ _ n (r .bounds .k1) (r .bounds .k2) sum)
 
-    pub old-stale : r .bounds .k1 ≤ n → 1 ≡ farOf rows r s
-    unfolding farOf far
-    old-stale k = behind-stale _ _ n (r .bounds .k1) (r .bounds .k2) sum k
+  new : r .start < s .line → n ≡ rowsWithin rows (s .key) (r .start) (s .line) → farBy r (s .line) n ≡ farOf rows r s
+  unfolding farBy farOf far
+  new h e =
+      let sum : rowsUpTo rows (s .key) (s .line) ≡ rowsUpTo rows (s .key) (r .start) + n = rw e (up-to-more (r .start) (s .line) (omega arith) rows (s .key)) in
+      rw (lt-leb (s .line) (r .start) h) (ahead-far _ _ n (r .bounds .k1) (r .bounds .k2) sum)
 
-    pub old-fresh : n < r .bounds .k1 → 4 ≡ farOf rows r s
-    unfolding farOf far
-    old-fresh k = behind-fresh _ _ n (r .bounds .k1) (r .bounds .k2) sum k
-
-  -- after it
-  module _ (h : r .start < s .line) (e : n ≡ rowsWithin rows (s .key) (r .start) (s .line)) where
-    total : rowsUpTo rows (s .key) (s .line) ≡ rowsUpTo rows (s .key) (r .start) + n
-    total = rw e (up-to-more (r .start) (s .line) (omega arith) rows (s .key))
-
-    pub new-early : r .bounds .k2 < n → 2 ≡ farOf rows r s
-    unfolding farOf far
-    new-early k = ahead-early _ _ n (r .bounds .k1) (r .bounds .k2) total k
-
-    pub new-stale : n ≡ 0 → r .bounds .k1 ≡ 0 → 1 ≡ farOf rows r s
-    unfolding farOf far
-    new-stale z k = ahead-stale _ _ n (r .bounds .k1) (r .bounds .k2) total z k
-
-    pub new-even : n ≡ 0 → (r .bounds .k1 ≡ 0 → ⊥) → 4 ≡ farOf rows r s
-    unfolding farOf far
-    new-even z k = ahead-even _ _ n (r .bounds .k1) (r .bounds .k2) total z k
-
-    pub new-near : (n ≡ 0 → ⊥) → n ≤ r .bounds .k2 → 4 ≡ farOf rows r s
-    unfolding farOf far
-    new-near z k = ahead-near _ _ n (r .bounds .k1) (r .bounds .k2) total z k
+  pub far-by : (low high : ℕ) → low ≡ min (r .start) (s .line) → high ≡ max (r .start) (s .line) → n ≡ rowsWithin rows (s .key) low high → farBy r (s .line) n ≡ farOf rows r s
+  far-by low high f g e = go (leb (s .line) (r .start)) refl
+    where
+      go : (t : Bool) → leb (s .line) (r .start) ≡ t → farBy r (s .line) n ≡ farOf rows r s
+      go true k =
+          let h : s .line ≤ r .start = leb-true (s .line) (r .start) k in
+          let a : low ≡ s .line = omega arith in
+          let b : high ≡ r .start = omega arith in
+          old h (e ∙ rw (a, b))
+      go false k =
+          let h : r .start < s .line = leb-false (s .line) (r .start) k in
+          let a : low ≡ r .start = omega arith in
+          let b : high ≡ s .line = omega arith in
+          new h (e ∙ rw (a, b))

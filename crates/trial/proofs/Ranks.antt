@@ -2,7 +2,7 @@
 use Prim.Native.Nat.{ℕ, zero, suc, _-_, _≤_, _<_, min, max}
 use native.Mathlib.Omega.{arith}
 use mathlib.Core.Path.{_≡_, refl, sym, _∙_, ap}
-use mathlib.Core.Bool.{Bool, true, false, cond, _||_, _&&_, false≢true}
+use mathlib.Core.Bool.{Bool, true, false, cond, _||_, _&&_, and-false, false≢true}
 use mathlib.Core.List.{List, [], _∷_}
 use lib.Dec.{leb, ltb}
 use lib.ListN.{length}
@@ -10,13 +10,12 @@ use borrow.Author.Tests.{ltb-true, ltb-false, lt-ltb, le-ltb, leb-true, leb-fals
 use Rattle.lists.specs.Lists.{any, find}
 use Rattle.lists.proofs.Every.{every-each}
 use Rattle.lists.proofs.Any.{any-same}
-use Rattle.lists.proofs.Count.{count-mono}
+use Rattle.lists.proofs.Count.{count-mono, count-none}
 use Rattle.records.specs.Ledger.{first, unread, stale, early, apart, overtakes, verdictOn, rowsBetween, madeBetween, has}
 use Rattle.records.specs.declared.Row.{Row}
 use Rattle.records.specs.declared.Seen.{Seen}
 use Rattle.records.specs.declared.Verdict.{Verdict}
 use Rattle.records.specs.declared.Verdict.the-variants.{Ok, RC, BV, FV, SV, WC}
-use Rattle.rows.proofs.Lines.{between-none}
 use Rattle.trial.specs.Trial.{latestOf, outrun, rules, rankOf, farOf, leastOf, ruled}
 
 -- more versions lie before a later line
@@ -30,11 +29,18 @@ between-grows rows x after low high h = count-mono (madeBetween x after low) (ma
     one true false e c f t = t
     one false b e c f t = t
 
+-- nothing is committed before line 0
+between-none : (rows : List Row) (x after : ℕ) → rowsBetween rows x after 0 ≡ 0
+unfolding rowsBetween
+between-none rows x after =
+    count-none (madeBetween x after 0)
+    (every-each (λ r. rw (le-ltb (r .end) 0 (omega arith), and-false (ltb after (r .end))) (and-false (has (r .keys) x))) rows)
+
 module _ (rows : List Row) (r : Row) (x : Seen) where
   -- some read is too far from x exactly if the latest is
   pub outrun-any : (l : List Seen) → outrun rows r (latestOf l) x ≡ any (apart rows r x) l
   unfolding any latestOf
-  outrun-any [] = le-ltb (r .bounds .k3) (rowsBetween rows (x .key) (x .line) 0) (omega (arith, between-none rows (x .key) (x .line) 0 refl))
+  outrun-any [] = le-ltb (r .bounds .k3) (rowsBetween rows (x .key) (x .line) 0) (omega (arith, between-none rows (x .key) (x .line)))
   outrun-any (y ∷ ys) = go (leb (y .line) (latestOf ys)) refl (outrun-any ys)
     where
       either : (u v : ℕ) → u ≤ v → ltb (r .bounds .k3) v ≡ (ltb (r .bounds .k3) u || ltb (r .bounds .k3) v)

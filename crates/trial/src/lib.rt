@@ -109,14 +109,9 @@ fn rank_of(memory: &[u64; WORDS], row: Row, y: u64, key: u64, line: u64) -> u8
         return 0;
     }
     let start = row.start;
-    let c = count_both(
-        memory,
-        key,
-        sooner(start, line),
-        later(start, line),
-        line,
-        y,
-    );
+    let low = sooner(start, line);
+    let high = later(start, line);
+    let c = count_both(memory, key, low, high, line, y);
     let far = far_by(row, line, c.within);
     if far < 4 {
         return far;

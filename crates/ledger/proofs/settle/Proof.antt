@@ -1,42 +1,94 @@
--- `settle` meets its contract: verdict, read and row by what each helper ensures.
-use denote.Ref.{now}
-use Rattle.rows.specs.Table.{table}
-use Rattle.trial.specs.Reads.{reads}
-use Rattle.ledger.specs.Books.{books, verdicts}
-use Rattle.ledger.proofs.Cases.{settles}
+-- `settle` meets its contract: a kind of record at a time.
+use Rattle.ledger.proofs.Cases.{settle-start, settle-tune, settle-write, settle-abort, settle-read, settle-commit}
 use borrow.Author.Needs.{needs}
 use Rattle.ledger.proofs.settle.Statement.{statement}
 use Rattle.ledger.proofs.settle.Tie as tie
 
-conclude-requires : tie.Need-conclude-requires
-conclude-requires c κs = search needs
+enum-told : tie.Need-enum-told
+enum-told c = search needs
+
+store-row-requires : tie.Need-store-row-requires
+store-row-requires c κs = search needs
+
+enum-known-e : tie.Need-enum-known-e
+enum-known-e c = search needs
+
+tuned-requires : tie.Need-tuned-requires
+tuned-requires c κs = search needs
+
+store-row-requires-2 : tie.Need-store-row-requires-2
+store-row-requires-2 c κs = search needs
+
+enum-known-e-2 : tie.Need-enum-known-e-2
+enum-known-e-2 c = search needs
 
 note-requires : tie.Need-note-requires
 note-requires c κs = search needs
 
-place-requires : tie.Need-place-requires
-place-requires c κs = search needs
+enum-known-e-3 : tie.Need-enum-known-e-3
+enum-known-e-3 c = search needs
 
-change-requires : tie.Need-change-requires
-change-requires c κs = search needs
+written-requires : tie.Need-written-requires
+written-requires c κs = search needs
 
-store-requires : tie.Need-store-requires
-store-requires c κs = search needs
+store-row-requires-3 : tie.Need-store-row-requires-3
+store-row-requires-3 c κs = search needs
 
-rows-after-requires : tie.Need-rows-after-requires
-rows-after-requires c κs = search needs
+enum-known-e-4 : tie.Need-enum-known-e-4
+enum-known-e-4 c = search needs
+
+conclude-requires : tie.Need-conclude-requires
+conclude-requires c κs = search needs
+
+enum-told-2 : tie.Need-enum-told-2
+enum-told-2 c = search needs
+
+ended-requires : tie.Need-ended-requires
+ended-requires c κs = search needs
+
+store-row-requires-4 : tie.Need-store-row-requires-4
+store-row-requires-4 c κs = search needs
 
 returns : tie.Need-returns
-returns c = let a = c .before .before .before .before .before .before .before .before .before .before .before .before .before .before .before .before .before .before .before .before .before .before .before .before .before .before .before .args in settles (a .counts) (books (table (now (a .names)) (now (a .starts)) (now (a .ends)) (now (a .words)) (now (a .k1s)) (now (a .k2s)) (now (a .k3s)) (now (a .lasts))) (reads (now (a .seen-keys)) (now (a .seen-lines)) (now (a .seen-befores))) (verdicts (now (a .judged-names)) (now (a .judged-verdicts)))) (a .line) (a .e) (a .number) (a .row) _ _ _ _ _ _ _ _ (c .before .before .before .before .before .before .before .before .before .before .before .before .before .before .before .before .before .before .before .conclude .ensures (table (now (a .names)) (now (a .starts)) (now (a .ends)) (now (a .words)) (now (a .k1s)) (now (a .k2s)) (now (a .k3s)) (now (a .lasts)))) (c .before .before .before .before .before .before .before .before .before .before .before .before .note .ensures (table (now (a .names)) (now (a .starts)) (now (a .ends)) (now (a .words)) (now (a .k1s)) (now (a .k2s)) (now (a .k3s)) (now (a .lasts)))) (c .before .before .before .place .ensures) (c .before .before .change .ensures) (c .before .store .ensures) (c .rows-after .ensures)
+returns c = settle-start _ _ _ _ (c .before .before .enum-told .given .1) (c .store-row .ensures)
+
+returns-2 : tie.Need-returns-2
+returns-2 c = settle-tune _ _ _ _ (c .before .before .before .before .e .given .1) (c .before .tuned .ensures) (c .store-row2 .ensures)
+
+returns-3 : tie.Need-returns-3
+returns-3 c = settle-read _ _ _ _ (c .before .before .before .e2 .given .1) (c .note .ensures)
+
+returns-4 : tie.Need-returns-4
+returns-4 c = settle-write _ _ _ _ (c .before .before .before .before .e3 .given .1) (c .before .written .ensures) (c .store-row3 .ensures)
+
+returns-5 : tie.Need-returns-5
+returns-5 c = settle-commit _ _ _ _ (c .before .before .before .e4 .given .1) (c .conclude .ensures)
+
+returns-6 : tie.Need-returns-6
+returns-6 c = settle-abort _ _ _ _ (c .before .before .before .enum-told2 .given .1) (c .before .ended .ensures) (c .store-row4 .ensures)
 
 pub settle-spec : {M : Type 1} → statement M
 settle-spec =
     tie.close
     (tie.spec
-    conclude-requires
+    enum-told
+    store-row-requires
+    enum-known-e
+    tuned-requires
+    store-row-requires-2
+    enum-known-e-2
     note-requires
-    place-requires
-    change-requires
-    store-requires
-    rows-after-requires
-    returns)
+    enum-known-e-3
+    written-requires
+    store-row-requires-3
+    enum-known-e-4
+    conclude-requires
+    enum-told-2
+    ended-requires
+    store-row-requires-4
+    returns
+    returns-2
+    returns-3
+    returns-4
+    returns-5
+    returns-6)

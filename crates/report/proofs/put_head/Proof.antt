@@ -11,9 +11,6 @@ slice-aggregate-put-word c = search needs
 put-word-requires : tie.Need-put-word-requires
 put-word-requires c κs = search needs
 
-cast-put-number : tie.Need-cast-put-number
-cast-put-number c = search needs
-
 put-number-requires : tie.Need-put-number-requires
 put-number-requires c κs = search needs
 
@@ -29,7 +26,6 @@ put-head-spec =
     (tie.spec
     slice-aggregate-put-word
     put-word-requires
-    cast-put-number
     put-number-requires
     same-length
     returns)

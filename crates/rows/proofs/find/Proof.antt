@@ -2,25 +2,29 @@
 use Prim.Native.Nat.{_≤_}
 use native.Mathlib.Omega.{arith}
 use mathlib.Core.Path.{_≡_}
-use Rattle.rows.specs.Table.{Table, withNames, rowsInUse, rowsOf, placeOf}
+use Rattle.book.specs.Book.{rowsOf, rowsIn, rowCount}
+use Rattle.rows.specs.Table.{placeOf}
 use Rattle.rows.proofs.Walk.{place-over, place-hit, place-miss}
 use Rattle.rows.proofs.find.Statement.{statement}
 use Rattle.rows.proofs.find.Tie as tie
 
 abbrev Inv-loop : tie.InvT-loop
-Inv-loop names count name i₀ i = (i ≤ rowsInUse count) × ((t : Table) → placeOf (rowsOf (withNames t names) i) name ≡ placeOf (rowsOf (withNames t names) (rowsInUse count)) name)
+Inv-loop memory name word i₀ i = (i ≤ rowCount memory) × (placeOf (rowsOf memory i) name ≡ placeOf (rowsIn memory) name)
 
 abbrev μ-loop : tie.MeasureT-loop
-μ-loop names count name i₀ i = i
+μ-loop memory name word i₀ i = i
 
-in-use-requires : tie.Need-in-use-requires Inv-loop μ-loop
-in-use-requires c κs = omega arith
+rows-requires : tie.Need-rows-requires Inv-loop μ-loop
+rows-requires c κs = omega arith
 
 loop-holds : tie.Need-loop-holds Inv-loop μ-loop
-loop-holds c = (omega arith, λ t. rw (c .in-use .ensures))
+loop-holds c = (omega arith, rw (c .rows .ensures))
 
 sub-if1 : tie.Need-sub-if1 Inv-loop μ-loop
 sub-if1 c = omega arith
+
+add-if1 : tie.Need-add-if1 Inv-loop μ-loop
+add-if1 c = omega arith
 
 mul-if1 : tie.Need-mul-if1 Inv-loop μ-loop
 mul-if1 c = omega arith
@@ -29,7 +33,7 @@ element-copy-out-if1 : tie.Need-element-copy-out-if1 Inv-loop μ-loop
 element-copy-out-if1 c = omega arith
 
 returns : tie.Need-returns Inv-loop μ-loop
-returns c t = let d = c .before .before .before in place-hit _ _ _ _ (d .loop .inv .1 t) (omega arith) (c .if1 .taken)
+returns c = let d = c .before .before .before in place-hit _ _ _ _ (d .loop .inv .1) (omega arith) (c .if1 .taken)
 
 sub-i : tie.Need-sub-i Inv-loop μ-loop
 sub-i c = omega arith
@@ -38,10 +42,10 @@ loop-less : tie.Need-loop-less Inv-loop μ-loop
 loop-less c = omega arith
 
 loop-again : tie.Need-loop-again Inv-loop μ-loop
-loop-again c = let d = c .before .before .before in (omega arith, λ t. place-miss _ _ _ _ (d .loop .inv .1 t) (omega arith) (c .if1 .left))
+loop-again c = let d = c .before .before .before in (omega arith, place-miss _ _ _ _ (d .loop .inv .1) (omega arith) (c .if1 .left))
 
 returns-2 : tie.Need-returns-2 Inv-loop μ-loop
-returns-2 c t = place-over _ _ _ _ (c .before .loop .inv .1 t) (omega arith)
+returns-2 c = place-over _ _ _ _ (c .before .loop .inv .1) (omega arith)
 
 pub find-spec : {M : Type 1} → statement M
 find-spec =
@@ -49,9 +53,10 @@ find-spec =
     (tie.spec
     Inv-loop
     μ-loop
-    in-use-requires
+    rows-requires
     loop-holds
     sub-if1
+    add-if1
     mul-if1
     element-copy-out-if1
     returns

@@ -1,34 +1,40 @@
--- `overtaken` meets its contract: what was walked is counted, whatever stands in the other columns.
+-- `overtaken` meets its contract: what was walked is counted.
 use Prim.Native.Nat.{_≤_, _-_}
 use native.Mathlib.Numerals.{add-one}
 use native.Mathlib.Omega.{arith}
 use mathlib.Core.Path.{_≡_, refl}
+use denote.Ref.{now}
 use Rattle.lists.specs.Lists as lists
 use Rattle.records.specs.Ledger.{overtakes}
-use Rattle.rows.specs.Table.{Table, withVersions, rowsInUse, rowsOf, rowsWithin}
+use Rattle.book.specs.Book.{rowsOf, rowCount}
 use Rattle.lists.proofs.Count.{bit-le, count-more, any-count}
-use borrow.Author.Needs.{needs}
 use Rattle.rows.proofs.overtaken.Statement.{statement}
 use Rattle.rows.proofs.overtaken.Tie as tie
 
 abbrev Inv-loop : tie.InvT-loop
-Inv-loop ends words count line row end n₀ i₀ n i = (i ≤ end) × ((end ≡ rowsInUse count) × ((n ≤ i) × ((t : Table) → n ≡ lists.count (overtakes line row) (rowsOf (withVersions t ends words) i))))
+Inv-loop memory line row end n₀ i₀ n i = (i ≤ end) × ((end ≡ rowCount memory) × ((n ≤ i) × (n ≡ lists.count (overtakes line row) (rowsOf memory i))))
 
 abbrev μ-loop : tie.MeasureT-loop
-μ-loop ends words count line row end n₀ i₀ n i = end - i
+μ-loop memory line row end n₀ i₀ n i = end - i
 
-in-use-requires : tie.Need-in-use-requires Inv-loop μ-loop
-in-use-requires c κs = search needs
+rows-requires : tie.Need-rows-requires Inv-loop μ-loop
+rows-requires c κs = omega arith
 
 loop-holds : tie.Need-loop-holds Inv-loop μ-loop
 unfolding rowsOf lists.count
-loop-holds c = (omega arith, (c .in-use .ensures, (omega arith, λ t. refl)))
+loop-holds c = (omega arith, (c .rows .ensures, (omega arith, refl)))
+
+add-one-if-overtakes : tie.Need-add-one-if-overtakes Inv-loop μ-loop
+add-one-if-overtakes c = omega arith
 
 mul-one-if-overtakes : tie.Need-mul-one-if-overtakes Inv-loop μ-loop
 mul-one-if-overtakes c = omega arith
 
 element-copy-out-one-if-overtakes : tie.Need-element-copy-out-one-if-overtakes Inv-loop μ-loop
 element-copy-out-one-if-overtakes c = omega arith
+
+add-one-if-overtakes-2 : tie.Need-add-one-if-overtakes-2 Inv-loop μ-loop
+add-one-if-overtakes-2 c = omega arith
 
 mul-one-if-overtakes-2 : tie.Need-mul-one-if-overtakes-2 Inv-loop μ-loop
 mul-one-if-overtakes-2 c = omega arith
@@ -37,7 +43,7 @@ element-copy-out-one-if-overtakes-2 : tie.Need-element-copy-out-one-if-overtakes
 element-copy-out-one-if-overtakes-2 c = omega arith
 
 one-if-overtakes-requires : tie.Need-one-if-overtakes-requires Inv-loop μ-loop
-one-if-overtakes-requires c κs = search needs
+one-if-overtakes-requires c κs = omega arith
 
 add-n : tie.Need-add-n Inv-loop μ-loop
 add-n c = omega (arith, bit-le _ _ (c .one-if-overtakes .ensures))
@@ -50,11 +56,10 @@ loop-less c = omega arith
 
 loop-again : tie.Need-loop-again Inv-loop μ-loop
 unfolding rowsOf
-loop-again c = (omega arith, (c .before .before .before .before .loop .inv .1 .0, (omega (arith, bit-le _ _ (c .one-if-overtakes .ensures)), λ t. rw (add-one (c .before .before .before .before .loop .i)) (count-more _ _ _ _ _ (c .before .before .before .before .loop .inv .1 .1 .1 t) (c .one-if-overtakes .ensures)))))
+loop-again c = (omega arith, (c .before .before .before .before .loop .inv .1 .0, (omega (arith, bit-le _ _ (c .one-if-overtakes .ensures)), rw (add-one (c .before .before .before .before .loop .i)) (count-more _ _ _ _ _ (c .before .before .before .before .loop .inv .1 .1 .1) (c .one-if-overtakes .ensures)))))
 
 returns : tie.Need-returns Inv-loop μ-loop
-unfolding rowsWithin
-returns c t = let e : c .before .loop .i ≡ rowsInUse (c .before .before .before .args .count) = omega arith in rw (← e) (any-count _ _ _ (c .before .loop .inv .1 .1 .1 t))
+returns c = let e : c .before .loop .i ≡ rowCount (now (c .before .before .before .args .memory)) = omega arith in rw (← e) (any-count _ _ _ (c .before .loop .inv .1 .1 .1))
 
 pub overtaken-spec : {M : Type 1} → statement M
 overtaken-spec =
@@ -62,10 +67,12 @@ overtaken-spec =
     (tie.spec
     Inv-loop
     μ-loop
-    in-use-requires
+    rows-requires
     loop-holds
+    add-one-if-overtakes
     mul-one-if-overtakes
     element-copy-out-one-if-overtakes
+    add-one-if-overtakes-2
     mul-one-if-overtakes-2
     element-copy-out-one-if-overtakes-2
     one-if-overtakes-requires

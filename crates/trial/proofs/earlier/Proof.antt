@@ -1,6 +1,6 @@
 -- `earlier` meets its contract: the number is among the first ones, or not.
 use borrow.Author.Tests.{le-leb, lt-leb}
-use Rattle.trial.specs.Reads.{among}
+use Rattle.trial.specs.Trial.{among}
 use Rattle.trial.proofs.earlier.Statement.{statement}
 use Rattle.trial.proofs.earlier.Tie as tie
 

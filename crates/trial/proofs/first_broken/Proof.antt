@@ -3,37 +3,45 @@ use Prim.Native.Nat.{_≤_, min}
 use native.Mathlib.Omega.{arith}
 use mathlib.Core.Path.{_≡_, refl}
 use Rattle.records.specs.Ledger.{chain}
-use Rattle.rows.specs.Table.{Table, withVersions, rowsInUse, rowsOf}
-use Rattle.trial.specs.Reads.{reads, readsInUse, seensOf}
+use Rattle.book.specs.Book.{readCount, rowsIn, seensIn, seensOf}
 use Rattle.trial.specs.Trial.{rules, leastOf}
-use Rattle.trial.proofs.Chain.{among-le, least-start, least-over, least-more, sooner-of}
+use Rattle.trial.proofs.Chain.{among-le, least-start, least-over, least-more}
 use borrow.Author.Needs.{needs}
 use Rattle.trial.proofs.first_broken.Statement.{statement}
 use Rattle.trial.proofs.first_broken.Tie as tie
 
 abbrev Inv-loop : tie.InvT-loop
-Inv-loop ends words rows keys lines befores count row y at₀ rank₀ at rank = (at ≤ readsInUse count) × ((rank ≤ 4) × ((t : Table) → leastOf (rules (rowsOf (withVersions t ends words) (rowsInUse rows)) row y) (chain (seensOf (reads keys lines befores) (readsInUse count)) (row .last)) ≡ min rank (leastOf (rules (rowsOf (withVersions t ends words) (rowsInUse rows)) row y) (chain (seensOf (reads keys lines befores) at) at))))
+Inv-loop memory row y at₀ rank₀ at rank = (at ≤ readCount memory) × ((rank ≤ 4) × (leastOf (rules (rowsIn memory) row y) (chain (seensIn memory) (row .last)) ≡ min rank (leastOf (rules (rowsIn memory) row y) (chain (seensOf memory at) at))))
 
 abbrev μ-loop : tie.MeasureT-loop
-μ-loop ends words rows keys lines befores count row y at₀ rank₀ at rank = at
+μ-loop memory row y at₀ rank₀ at rank = at
 
-in-use-requires : tie.Need-in-use-requires Inv-loop μ-loop
-in-use-requires c κs = search needs
+reads-requires : tie.Need-reads-requires Inv-loop μ-loop
+reads-requires c κs = search needs
 
 earlier-requires : tie.Need-earlier-requires Inv-loop μ-loop
 earlier-requires c κs = search needs
 
 loop-holds : tie.Need-loop-holds Inv-loop μ-loop
-loop-holds c = (omega (arith, among-le _ _ _ (c .earlier .ensures)), (omega arith, λ t. least-start _ _ _ _ _ _ _ refl (c .before .in-use .ensures) (c .earlier .ensures)))
+loop-holds c = (omega (arith, among-le _ _ _ (c .earlier .ensures)), (omega arith, least-start _ _ _ _ _ _ _ refl (c .before .reads .ensures) (c .earlier .ensures)))
 
 sub-i : tie.Need-sub-i Inv-loop μ-loop
 sub-i c = omega arith
 
-element-copy-out-rank-of : tie.Need-element-copy-out-rank-of Inv-loop μ-loop
-element-copy-out-rank-of c = omega arith
+add-rank-of : tie.Need-add-rank-of Inv-loop μ-loop
+add-rank-of c = omega arith
 
 mul-rank-of : tie.Need-mul-rank-of Inv-loop μ-loop
 mul-rank-of c = omega arith
+
+element-copy-out-rank-of : tie.Need-element-copy-out-rank-of Inv-loop μ-loop
+element-copy-out-rank-of c = omega arith
+
+add-rank-of-2 : tie.Need-add-rank-of-2 Inv-loop μ-loop
+add-rank-of-2 c = omega arith
+
+mul-rank-of-2 : tie.Need-mul-rank-of-2 Inv-loop μ-loop
+mul-rank-of-2 c = omega arith
 
 element-copy-out-rank-of-2 : tie.Need-element-copy-out-rank-of-2 Inv-loop μ-loop
 element-copy-out-rank-of-2 c = omega arith
@@ -41,8 +49,11 @@ element-copy-out-rank-of-2 c = omega arith
 rank-of-requires : tie.Need-rank-of-requires Inv-loop μ-loop
 rank-of-requires c κs = search needs
 
-sooner-requires : tie.Need-sooner-requires Inv-loop μ-loop
-sooner-requires c κs = search needs
+lesser-requires : tie.Need-lesser-requires Inv-loop μ-loop
+lesser-requires c κs = search needs
+
+add-earlier : tie.Need-add-earlier Inv-loop μ-loop
+add-earlier c = omega arith
 
 mul-earlier : tie.Need-mul-earlier Inv-loop μ-loop
 mul-earlier c = omega arith
@@ -57,10 +68,10 @@ loop-less : tie.Need-loop-less Inv-loop μ-loop
 loop-less c = omega (arith, among-le _ _ _ (c .earlier2 .ensures))
 
 loop-again : tie.Need-loop-again Inv-loop μ-loop
-loop-again c = let d = c .before .before .before .before .before .before .before in (omega (arith, among-le _ _ _ (c .earlier2 .ensures)), (omega arith, λ t. least-more _ _ _ _ _ (d .loop .inv .1 .1 t) (omega arith) _ _ (sooner-of _ (c .before .before .sooner .ensures) (c .before .before .before .rank-of .ensures t _)) (c .earlier2 .ensures)))
+loop-again c = let d = c .before .before .before .before .before .before .before in (omega (arith, among-le _ _ _ (c .earlier2 .ensures)), (omega arith, least-more _ _ _ _ _ (d .loop .inv .1 .1) (omega arith) _ _ _ (c .before .before .lesser .ensures) (c .before .before .before .rank-of .ensures _) (c .earlier2 .ensures)))
 
 returns : tie.Need-returns Inv-loop μ-loop
-returns c t = least-over _ _ _ _ _ (c .before .loop .inv .1 .1 t) (c .before .loop .inv .1 .0) (omega arith)
+returns c = least-over _ _ _ _ _ (c .before .loop .inv .1 .1) (c .before .loop .inv .1 .0) (omega arith)
 
 pub first-broken-spec : {M : Type 1} → statement M
 first-broken-spec =
@@ -68,15 +79,19 @@ first-broken-spec =
     (tie.spec
     Inv-loop
     μ-loop
-    in-use-requires
+    reads-requires
     earlier-requires
     loop-holds
     sub-i
-    element-copy-out-rank-of
+    add-rank-of
     mul-rank-of
+    element-copy-out-rank-of
+    add-rank-of-2
+    mul-rank-of-2
     element-copy-out-rank-of-2
     rank-of-requires
-    sooner-requires
+    lesser-requires
+    add-earlier
     mul-earlier
     element-copy-out-earlier
     earlier-requires-2

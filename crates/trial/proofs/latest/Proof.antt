@@ -1,10 +1,9 @@
 -- `latest` meets its contract: the reads walked, and those not yet walked, have the latest line.
-use Prim.Native.Nat.{ℕ, _≤_, max}
+use Prim.Native.Nat.{_≤_, max}
 use native.Mathlib.Omega.{arith}
 use mathlib.Core.Path.{_≡_}
-use mathlib.Core.List.{List}
 use Rattle.records.specs.Ledger.{chain}
-use Rattle.trial.specs.Reads.{reads, readsInUse, seensOf}
+use Rattle.book.specs.Book.{readCount, seensIn, seensOf}
 use Rattle.trial.specs.Trial.{latestOf}
 use Rattle.trial.proofs.Chain.{among-le, latest-start, latest-over, latest-more}
 use borrow.Author.Needs.{needs}
@@ -12,22 +11,25 @@ use Rattle.trial.proofs.latest.Statement.{statement}
 use Rattle.trial.proofs.latest.Tie as tie
 
 abbrev Inv-loop : tie.InvT-loop
-Inv-loop lines befores count last at₀ most₀ at most = (at ≤ readsInUse count) × ((keys : List ℕ) → latestOf (chain (seensOf (reads keys lines befores) (readsInUse count)) last) ≡ max most (latestOf (chain (seensOf (reads keys lines befores) at) at)))
+Inv-loop memory last at₀ most₀ at most = (at ≤ readCount memory) × (latestOf (chain (seensIn memory) last) ≡ max most (latestOf (chain (seensOf memory at) at)))
 
 abbrev μ-loop : tie.MeasureT-loop
-μ-loop lines befores count last at₀ most₀ at most = at
+μ-loop memory last at₀ most₀ at most = at
 
-in-use-requires : tie.Need-in-use-requires Inv-loop μ-loop
-in-use-requires c κs = search needs
+reads-requires : tie.Need-reads-requires Inv-loop μ-loop
+reads-requires c κs = search needs
 
 earlier-requires : tie.Need-earlier-requires Inv-loop μ-loop
 earlier-requires c κs = search needs
 
 loop-holds : tie.Need-loop-holds Inv-loop μ-loop
-loop-holds c = (omega (arith, among-le _ _ _ (c .earlier .ensures)), λ keys. latest-start _ _ _ _ _ (c .before .in-use .ensures) (c .earlier .ensures))
+loop-holds c = (omega (arith, among-le _ _ _ (c .earlier .ensures)), latest-start _ _ _ _ _ (c .before .reads .ensures) (c .earlier .ensures))
 
 sub-i : tie.Need-sub-i Inv-loop μ-loop
 sub-i c = omega arith
+
+add-later : tie.Need-add-later Inv-loop μ-loop
+add-later c = omega arith
 
 mul-later : tie.Need-mul-later Inv-loop μ-loop
 mul-later c = omega arith
@@ -37,6 +39,9 @@ element-copy-out-later c = omega arith
 
 later-requires : tie.Need-later-requires Inv-loop μ-loop
 later-requires c κs = search needs
+
+add-earlier : tie.Need-add-earlier Inv-loop μ-loop
+add-earlier c = omega arith
 
 mul-earlier : tie.Need-mul-earlier Inv-loop μ-loop
 mul-earlier c = omega arith
@@ -51,10 +56,10 @@ loop-less : tie.Need-loop-less Inv-loop μ-loop
 loop-less c = omega (arith, among-le _ _ _ (c .earlier2 .ensures))
 
 loop-again : tie.Need-loop-again Inv-loop μ-loop
-loop-again c = let d = c .before .before .before .before .before in (omega (arith, among-le _ _ _ (c .earlier2 .ensures)), λ keys. latest-more _ _ _ _ (d .loop .inv .1 keys) (omega arith) _ _ (c .before .before .later .ensures) (c .earlier2 .ensures))
+loop-again c = let d = c .before .before .before .before .before in (omega (arith, among-le _ _ _ (c .earlier2 .ensures)), latest-more _ _ _ _ (d .loop .inv .1) (omega arith) _ _ (c .before .before .later .ensures) (c .earlier2 .ensures))
 
 returns : tie.Need-returns Inv-loop μ-loop
-returns c keys = latest-over _ _ _ _ (c .before .loop .inv .1 keys) (omega arith)
+returns c = latest-over _ _ _ _ (c .before .loop .inv .1) (omega arith)
 
 pub latest-spec : {M : Type 1} → statement M
 latest-spec =
@@ -62,13 +67,15 @@ latest-spec =
     (tie.spec
     Inv-loop
     μ-loop
-    in-use-requires
+    reads-requires
     earlier-requires
     loop-holds
     sub-i
+    add-later
     mul-later
     element-copy-out-later
     later-requires
+    add-earlier
     mul-earlier
     element-copy-out-earlier
     earlier-requires-2
