@@ -12,6 +12,7 @@ use Rattle.records.specs.declared.Judged.{Judged}
 use Rattle.records.specs.declared.Totals.{Totals}
 use Rattle.records.specs.Ledger.{blank}
 use Rattle.records.specs.Totals.{noTotals}
+use Rattle.book.specs.Layout.{wordCount}
 use Rattle.book.specs.Book.{judgedIn}
 use Rattle.report.specs.declared.Written.{Written}
 use Rattle.report.specs.Report.{reportText}
@@ -54,7 +55,7 @@ module _ (s room : List ℕ) where
     short = rw (le-ltb 65536 (length s) h)
 
     -- what the pass over words that are 0 came to
-    module _ {r : Ran} {ws : List ℕ} (p : passed (ranTo r ws) ws ≡ passes s 0 1 noTotals (replicate 17411 0)) where
+    module _ {r : Ran} {ws : List ℕ} (p : passed (ranTo r ws) ws ≡ passes s 0 1 noTotals (replicate wordCount 0)) where
       is : {q : Ran} → r ≡ q → ranTo q ws ≡ reportOf s
       is e = ap (λ (x : Ran). ranTo x ws) (sym e) ∙ ap (λ (x : Passed). x .report) p ∙ zero-words s ∙ sym short
 

@@ -23,6 +23,7 @@ use Rattle.history.specs.Line.{lineAt}
 use Rattle.history.specs.Text.{InForm}
 use Rattle.history.proofs.Reading.{line-reads, end-exactly, bad-exactly}
 use Rattle.reader.specs.Reader.{placeAfter}
+use Rattle.book.specs.Layout.{wordCount}
 use Rattle.book.specs.Book.{ledgerOf, rowsIn, seensIn, judgedIn, rowsOf, seensOf, judgedOf, rowCount, readCount, verdictCount}
 use Rattle.book.proofs.Laws.{seens-length, judged-length}
 use Rattle.ledger.specs.Take.{replyTo, cameTo, tidy, booked, Bounded}
@@ -74,7 +75,7 @@ in-bounds (Commit t) f = record { k1 = omega arith; k2 = omega arith; k3 = omega
 in-bounds (Abort t) f = record { k1 = omega arith; k2 = omega arith; k3 = omega arith }
 
 -- before line n there are at most n - 1 recorded reads, and where a row is open there is a verdict less than rows
-module _ (s : List ℕ) (at n : ℕ) (t : Totals) (ws : List ℕ) (whole : length ws ≡ 17411) (few : n ≤ 4096) (reached : Reached n (ledgerOf ws) t) where
+module _ (s : List ℕ) (at n : ℕ) (t : Totals) (ws : List ℕ) (whole : length ws ≡ wordCount) (few : n ≤ 4096) (reached : Reached n (ledgerOf ws) t) where
   stepped : (e : Record) (next : ℕ) → lineAt s at ≡ read.Taken e next → cameTo (replyTo (lineStep n e (ledgerOf ws))) (booked ws n e) ≡ lineStep n e (ledgerOf ws)
   stepped e next there =
       ledger-after ws n whole (omega (arith, reached .number, seens-most (reached .taken), seens-length ws (readCount ws))) e
@@ -102,8 +103,8 @@ module _ (s : List ℕ) (at n : ℕ) (t : Totals) (ws : List ℕ) (late : 4096 <
   last-line read.End q = rw (le-leb (length s) at (end-exactly s at .0 q))
 
 -- a line before it, where those behind it are the meaning's
-module _ (left : ℕ) (s : List ℕ) (at n : ℕ) (t : Totals) (ws : List ℕ) (whole : length ws ≡ 17411) (few : n ≤ 4096) (reached : Reached n (ledgerOf ws) t)
-    (rest : (at′ : ℕ) (t′ : Totals) (ws′ : List ℕ) → length ws′ ≡ 17411 → Reached (n + 1) (ledgerOf ws′) t′ → passesOn left s at′ (n + 1) t′ ws′ .report ≡ lines left s at′ (n + 1) (ledgerOf ws′) t′)
+module _ (left : ℕ) (s : List ℕ) (at n : ℕ) (t : Totals) (ws : List ℕ) (whole : length ws ≡ wordCount) (few : n ≤ 4096) (reached : Reached n (ledgerOf ws) t)
+    (rest : (at′ : ℕ) (t′ : Totals) (ws′ : List ℕ) → length ws′ ≡ wordCount → Reached (n + 1) (ledgerOf ws′) t′ → passesOn left s at′ (n + 1) t′ ws′ .report ≡ lines left s at′ (n + 1) (ledgerOf ws′) t′)
   where
     -- how the pass goes on after what a line came to
     abbrev onward : Coming → List ℕ → ℕ → Passed
@@ -128,7 +129,7 @@ module _ (left : ℕ) (s : List ℕ) (at n : ℕ) (t : Totals) (ws : List ℕ) (
     any-line read.End q = refl
 
 -- from a place on
-pass-lines : (left : ℕ) (s : List ℕ) (at n : ℕ) (t : Totals) (ws : List ℕ) → left + n ≡ 4097 → length ws ≡ 17411 → Reached n (ledgerOf ws) t
+pass-lines : (left : ℕ) (s : List ℕ) (at n : ℕ) (t : Totals) (ws : List ℕ) → left + n ≡ 4097 → length ws ≡ wordCount → Reached n (ledgerOf ws) t
     → passesOn left s at n t ws .report ≡ lines left s at n (ledgerOf ws) t
 unfolding passesOn lines
 pass-lines zero s at n t ws sum whole reached = last-line s at n t ws (omega (arith, sum)) (lineAt s at) refl
@@ -141,12 +142,12 @@ unfolding rowsOf seensOf judgedOf
 blank-counts ws a b c p q r = rw (p, q, r)
 
 -- the pass over the whole text
-pub passes-lines : (s ws : List ℕ) → length ws ≡ 17411 → rowCount ws ≡ 0 → readCount ws ≡ 0 → verdictCount ws ≡ 0
+pub passes-lines : (s ws : List ℕ) → length ws ≡ wordCount → rowCount ws ≡ 0 → readCount ws ≡ 0 → verdictCount ws ≡ 0
     → passes s 0 1 noTotals ws .report ≡ lines 4096 s 0 1 blank noTotals
 passes-lines s ws whole p q r =
     let e : ledgerOf ws ≡ blank = blank-counts ws (rowCount ws) (readCount ws) (verdictCount ws) p q r in
     pass-lines 4096 s 0 1 noTotals ws refl whole (subst (λ (l : Ledger). Reached 1 l noTotals) (sym e) reached-first) ∙ ap (λ (l : Ledger). lines 4096 s 0 1 l noTotals) e
 
 -- and on the words as `judge` makes them
-pub zero-words : (s : List ℕ) → passes s 0 1 noTotals (replicate 17411 0) .report ≡ lines 4096 s 0 1 blank noTotals
-zero-words s = passes-lines s (replicate 17411 0) (length-replicate 17411 0) ? ? ?
+pub zero-words : (s : List ℕ) → passes s 0 1 noTotals (replicate wordCount 0) .report ≡ lines 4096 s 0 1 blank noTotals
+zero-words s = passes-lines s (replicate wordCount 0) (length-replicate {A = ℕ} wordCount 0) refl refl refl

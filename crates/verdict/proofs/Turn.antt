@@ -9,9 +9,10 @@ use borrow.Author.Tests.{lt-ltb}
 use Rattle.records.specs.Totals.{raised}
 use Rattle.records.specs.declared.Record.{Record}
 use Rattle.records.specs.declared.Totals.{Totals}
-use Rattle.history.specs.Line.{lineAt}
+use Rattle.history.specs.Line.{LineReply, lineReply, lineSaid, lineAt}
 use Rattle.history.specs.declared.Line.{Line}
 use Rattle.history.specs.declared.Line.the-variants as line
+use Rattle.history.proofs.Determined.{line-inj}
 use Rattle.reader.specs.Reader.{placeAfter}
 use Rattle.verdict.specs.Judge.{Report}
 use Rattle.verdict.specs.Pass.{Coming, comesTo, taken, wordsAfter, isOver, recordOf, endsIn, Passed, passed, passesOn, passes}
@@ -60,8 +61,13 @@ module _ (s : List ℕ) (at n : ℕ) (t : Totals) (ws : List ℕ) where
       let b : 4097 - (n + 1) ≡ 4096 - n = omega arith in
       rw (a, b, h)
 
+-- the reader's line is the line there
+pub line-there : (s : List ℕ) (at : ℕ) (l : Line) → _≡_ {A = LineReply} (lineReply l) (lineSaid s at) → l ≡ lineAt s at
+unfolding lineSaid
+line-there s at l e = line-inj l (lineAt s at) e
+
 -- the same of what the calls of the turn answered
-module _ {s : List ℕ} {at n : ℕ} {t : Totals} {ws : List ℕ} {l : Line} {c k : Coming} (el : l ≡ lineAt s at) (ec : c ≡ comesTo n l) (ek : k ≡ taken ws n c) where
+module _ (s : List ℕ) (at n : ℕ) (t : Totals) (ws : List ℕ) (l : Line) (c k : Coming) (el : l ≡ lineAt s at) (ec : c ≡ comesTo n l) (ek : k ≡ taken ws n c) where
   same-asked : c ≡ comesTo n (lineAt s at)
   same-asked = ec ∙ ap (λ (x : Line). comesTo n x) el
 
