@@ -1,27 +1,28 @@
 -- From what the pass came to, to the reply and the room.
-use Prim.Native.Nat.{ℕ, _≤_, _<_, min}
+use Prim.Native.Nat.{ℕ, _≤_, _<_}
 use mathlib.Core.Path.{_≡_, refl, sym, ap, _∙_}
 use mathlib.Core.Bool.{Bool, true, false, cond}
 use mathlib.Core.List.{List, reverse}
 use borrow.Author.Tests.{lt-ltb, le-ltb}
 use lib.Dec.{leb}
-use lib.ListN.{length}
+use lib.ListN.{length, replicate}
 use Rattle.units.specs.Refusal.{numberOf}
 use Rattle.units.specs.declared.refusal.Refusal.{Refusal}
 use Rattle.records.specs.declared.Judged.{Judged}
 use Rattle.records.specs.declared.Totals.{Totals}
 use Rattle.records.specs.Ledger.{blank}
 use Rattle.records.specs.Totals.{noTotals}
-use Rattle.ledger.specs.declared.Counts.{Counts}
-use Rattle.ledger.specs.Books.{verdicts, judgedOf}
+use Rattle.book.specs.Layout.{wordCount}
+use Rattle.book.specs.Book.{judgedIn}
 use Rattle.report.specs.declared.Written.{Written}
-use Rattle.report.specs.Report.{judgedList, reportText}
+use Rattle.report.specs.Report.{reportText}
 use Rattle.report.specs.Write.{WriteReply, wroteBytes, refusedWith, writtenReply, writtenAs}
-use Rattle.report.proofs.Lines.{judged-reverse}
 use Rattle.verdict.specs.declared.Ran.{Ran}
 use Rattle.verdict.specs.declared.Ran.the-variants.{Done, Refused}
 use Rattle.verdict.specs.Judge.{Report, judged, lines, reportOf}
-use Rattle.verdict.specs.Reply.{Reply, bytes, refusedAt, replied, roomAfter, ranTo}
+use Rattle.verdict.specs.Reply.{Reply, bytes, refusedAt, replied, roomAfter}
+use Rattle.verdict.specs.Pass.{ranTo, Passed, passed, passes}
+use Rattle.verdict.proofs.Pass.{zero-words}
 
 -- ---- the report written, or without room
 
@@ -41,12 +42,6 @@ pub finished : (js : List Judged) (t : Totals) (room : List ℕ) {w x : Written}
     → heard (writtenReply x) ≡ replied (judged js t) room
 finished js t room p q = ap heard (ap writtenReply (sym q) ∙ p) ∙ heard-text js t room
 
--- ---- the verdicts in order of commit lines, from the columns
-
-verdicts-oldest : (names codes : List ℕ) (n : ℕ) → judgedList names codes n ≡ reverse (judgedOf (verdicts names codes) n)
-unfolding judgedOf
-verdicts-oldest names codes = judged-reverse names codes (judgedOf (verdicts names codes)) refl (λ n. refl)
-
 -- ---- the whole answer
 
 module _ (s room : List ℕ) where
@@ -59,16 +54,15 @@ module _ (s room : List ℕ) where
     unfolding reportOf
     short = rw (le-ltb 65536 (length s) h)
 
-    module _ {r : Ran} (names codes : List ℕ) (p : ranTo r (verdicts names codes) ≡ lines 4096 s 0 1 blank noTotals) where
-      is : {q : Ran} → r ≡ q → ranTo q (verdicts names codes) ≡ reportOf s
-      is e = ap (λ (x : Ran). ranTo x (verdicts names codes)) (sym e) ∙ p ∙ sym short
+    -- what the pass over words that are 0 came to
+    module _ {r : Ran} {ws : List ℕ} (p : passed (ranTo r ws) ws ≡ passes s 0 1 noTotals (replicate wordCount 0)) where
+      is : {q : Ran} → r ≡ q → ranTo q ws ≡ reportOf s
+      is e = ap (λ (x : Ran). ranTo x ws) (sym e) ∙ ap (λ (x : Passed). x .report) p ∙ zero-words s ∙ sym short
 
       pub judge-refused : {f : Refusal} {line : ℕ} → r ≡ Refused f line → (refusedAt (numberOf f) line ≡ replied (reportOf s) room) × (room ≡ roomAfter (reportOf s) room)
       judge-refused e = (ap (λ (x : Report). replied x room) (is e), ap (λ (x : Report). roomAfter x room) (is e))
 
-      pub judge-done : {k : Counts} {t : Totals} → r ≡ Done k t → (a : Reply) (after : List ℕ)
-          → (a ≡ replied (judged (judgedList names codes (min (k .judged) 512)) t) room) × (after ≡ roomAfter (judged (judgedList names codes (min (k .judged) 512)) t) room)
+      pub judge-done : {t : Totals} → r ≡ Done t → (a : Reply) (after : List ℕ)
+          → (a ≡ replied (judged (reverse (judgedIn ws)) t) room) × (after ≡ roomAfter (judged (reverse (judgedIn ws)) t) room)
           → (a ≡ replied (reportOf s) room) × (after ≡ roomAfter (reportOf s) room)
-      judge-done {k} {t} e a after w =
-          let same : judged (judgedList names codes (min (k .judged) 512)) t ≡ reportOf s = ap (λ (js : List Judged). judged js t) (verdicts-oldest names codes (min (k .judged) 512)) ∙ is e in
-          (w .0 ∙ ap (λ (x : Report). replied x room) same, w .1 ∙ ap (λ (x : Report). roomAfter x room) same)
+      judge-done e a after w = (w .0 ∙ ap (λ (x : Report). replied x room) (is e), w .1 ∙ ap (λ (x : Report). roomAfter x room) (is e))

@@ -1,5 +1,7 @@
 -- The laws of the judge's pass and of its answers, for this crate's proofs; and that what it says is right.
 pub mod Limits
+pub mod Comes
+pub mod Turn
 pub mod Pass
 pub mod Answers
 pub mod Shown

@@ -1,16 +1,14 @@
--- The pass over the lines, a law for each way that a line goes.
-use Prim.Native.Nat.{ℕ, zero, suc, _+_, _-_, _≤_, _<_, min}
-use native.Mathlib.Nat.{mod-eq-of-lt}
+-- The pass over the lines is the meaning's: the words stand for its ledger before every line, and there is room for what each line records.
+use Prim.Native.Nat.{ℕ, zero, suc, _+_, _-_, _≤_, _<_}
+use native.Mathlib.Decide.{decLt}
 use native.Mathlib.Omega.{arith}
 use mathlib.Core.Path.{_≡_, refl, sym, ap, _∙_, subst}
-use mathlib.Core.Bool.{true, cond}
+use mathlib.Core.Bool.{Bool, true, false, cond}
 use mathlib.Core.List.{List, [], _∷_}
-use borrow.Author.Tests.{le-leb, lt-leb}
-use lib.Dec.{leb}
-use lib.ListN.{length}
-use Rattle.units.specs.Refusal.{numberOf}
-use Rattle.units.specs.declared.refusal.Refusal.{Refusal}
-use Rattle.records.specs.Parts.{nameOf}
+use borrow.Author.Tests.{le-leb, lt-leb, lt-ltb, le-ltb}
+use lib.Dec.{leb, ltb}
+use lib.ListN.{length, getD, replicate, length-replicate}
+use Rattle.records.specs.Parts.{partsOf, nameOf}
 use Rattle.records.specs.declared.Record.{Record}
 use Rattle.records.specs.declared.Record.the-variants.{Start, Tune, Read, Write, Commit, Abort}
 use Rattle.records.specs.declared.Totals.{Totals}
@@ -19,19 +17,20 @@ use Rattle.records.specs.Ledger.{Ledger, Outcome, refused, went, blank, rowOf, 
 use Rattle.records.specs.Totals.{noTotals, raised}
 use Rattle.records.specs.Tally.{totalsOf}
 use Rattle.records.specs.Judge.{Taken, nothing, line}
-use Rattle.history.specs.declared.Line as read
+use Rattle.history.specs.declared.Line.{Line}
+use Rattle.history.specs.declared.Line.the-variants as read
 use Rattle.history.specs.Line.{lineAt}
 use Rattle.history.specs.Text.{InForm}
-use Rattle.history.proofs.Reading.{line-reads}
-use Rattle.rows.specs.Table.{rowsOf}
-use Rattle.trial.specs.Reads.{seensOf}
-use Rattle.trial.proofs.Chain.{seens-length}
-use Rattle.ledger.specs.declared.Counts.{Counts}
-use Rattle.ledger.specs.declared.Taken as took
-use Rattle.ledger.specs.Books.{Books, Verdicts, judgedOf, ledgerOf}
-use Rattle.ledger.specs.Take.{tidy, booking, outcome}
+use Rattle.history.proofs.Reading.{line-reads, end-exactly, bad-exactly}
+use Rattle.reader.specs.Reader.{placeAfter}
+use Rattle.book.specs.Layout.{wordCount}
+use Rattle.book.specs.Book.{ledgerOf, rowsIn, seensIn, judgedIn, rowsOf, seensOf, judgedOf, rowCount, readCount, verdictCount}
+use Rattle.book.proofs.Laws.{seens-length, judged-length}
+use Rattle.ledger.specs.Take.{replyTo, cameTo, tidy, booked, Bounded}
+use Rattle.ledger.proofs.After.{tidy-same, ledger-after, booked-length}
 use Rattle.verdict.specs.Judge.{Report, judged, reportOn, onLine, onOutcome, lines}
 use Rattle.verdict.specs.Judge as said
+use Rattle.verdict.specs.Pass.{Coming, onTake, comesTo, taken, wordsAfter, isOver, recordOf, endsIn, Passed, passed, passesOn, passes}
 use Rattle.verdict.proofs.Limits.{seens-most, judged-room}
 
 -- the lines before this one were taken, and led to this ledger and these totals
@@ -56,92 +55,99 @@ reached-more {n} {l} e l′ r q =
       totals = ap (raised e) (r .totals);
     }
 
--- a record that was read has a key of 0 to 63
-tidied : (e : Record) → InForm e → tidy e ≡ e
+-- a record that was read has a key of 0 to 63 and bounds of 16 bits
+in-keys : (e : Record) → InForm e → partsOf e .key ≤ 63
 unfolding InForm
-tidied (Start t) f = refl
-tidied (Tune t b) f = refl
-tidied (Read t x w) f = refl
-tidied (Write t x) f = ap (Write t) (mod-eq-of-lt (omega (arith, f .1 .1)))
-tidied (Commit t) f = refl
-tidied (Abort t) f = refl
+in-keys (Start t) f = omega arith
+in-keys (Tune t b) f = omega arith
+in-keys (Read t x w) f = f .1 .0 .1
+in-keys (Write t x) f = f .1 .1
+in-keys (Commit t) f = omega arith
+in-keys (Abort t) f = omega arith
 
-judged-length : (v : Verdicts) (n : ℕ) → length (judgedOf v n) ≡ n
-unfolding judgedOf
-judged-length v zero = refl
-judged-length v (suc n) = ap suc (judged-length v n)
+in-bounds : (e : Record) → InForm e → Bounded e
+unfolding InForm
+in-bounds (Start t) f = record { k1 = omega arith; k2 = omega arith; k3 = omega arith }
+in-bounds (Tune t b) f = record { k1 = omega (arith, f .1 .0 .1); k2 = omega (arith, f .1 .1 .0 .1); k3 = omega (arith, f .1 .1 .1 .1) }
+in-bounds (Read t x w) f = record { k1 = omega arith; k2 = omega arith; k3 = omega arith }
+in-bounds (Write t x) f = record { k1 = omega arith; k2 = omega arith; k3 = omega arith }
+in-bounds (Commit t) f = record { k1 = omega arith; k2 = omega arith; k3 = omega arith }
+in-bounds (Abort t) f = record { k1 = omega arith; k2 = omega arith; k3 = omega arith }
 
--- the columns before the first line
-pub blank-first : (b : Books) → ledgerOf (record { rows = 0; seens = 0; judged = 0 }) b ≡ blank
+-- before line n there are at most n - 1 recorded reads, and where a row is open there is a verdict less than rows
+module _ (s : List ℕ) (at n : ℕ) (t : Totals) (ws : List ℕ) (whole : length ws ≡ wordCount) (few : n ≤ 4096) (reached : Reached n (ledgerOf ws) t) where
+  stepped : (e : Record) (next : ℕ) → lineAt s at ≡ read.Taken e next → cameTo (replyTo (lineStep n e (ledgerOf ws))) (booked ws n e) ≡ lineStep n e (ledgerOf ws)
+  stepped e next there =
+      ledger-after ws n whole (omega (arith, reached .number, seens-most (reached .taken), seens-length ws (readCount ws))) e
+      (λ o. omega (arith, judged-room (reached .taken) (omega (arith, reached .number)) (nameOf e) o, judged-length ws (verdictCount ws)))
+      (in-bounds e (line-reads s at there .form))
+      ∙ ap (λ (d : Record). lineStep n d (ledgerOf ws)) (tidy-same e (in-keys e (line-reads s at there .form)))
+
+-- line 4,097
+module _ (s : List ℕ) (at n : ℕ) (t : Totals) (ws : List ℕ) (late : 4096 < n) where
+  more : (e : Record) (next : ℕ) → lineAt s at ≡ read.Taken e next → at < length s
+  more e next q = go (decLt at (length s))
+    where
+      go : Dec (at < length s) → at < length s
+      go (yes h) = h
+      go (no h) =
+          let p : lineAt s at ≡ read.End = end-exactly s at .1 (omega arith) in
+          let z : _≡_ {A = ℕ} 0 1 = cc in
+          absurd (omega arith)
+
+  last-line : (l : Line) → lineAt s at ≡ l
+      → endsIn (taken ws n (comesTo n l)) t (wordsAfter ws n (comesTo n l)) ≡ cond (leb (length s) at) (reportOn (ledgerOf ws) t) (said.refused 14 n)
+  unfolding comesTo taken wordsAfter
+  last-line (read.Taken e next) q = rw (lt-ltb 4096 n late, lt-leb (length s) at (more e next q))
+  last-line read.Bad q = rw (lt-ltb 4096 n late, lt-leb (length s) at (bad-exactly s at .0 q .0))
+  last-line read.End q = rw (le-leb (length s) at (end-exactly s at .0 q))
+
+-- a line before it, where those behind it are the meaning's
+module _ (left : ℕ) (s : List ℕ) (at n : ℕ) (t : Totals) (ws : List ℕ) (whole : length ws ≡ wordCount) (few : n ≤ 4096) (reached : Reached n (ledgerOf ws) t)
+    (rest : (at′ : ℕ) (t′ : Totals) (ws′ : List ℕ) → length ws′ ≡ wordCount → Reached (n + 1) (ledgerOf ws′) t′ → passesOn left s at′ (n + 1) t′ ws′ .report ≡ lines left s at′ (n + 1) (ledgerOf ws′) t′)
+  where
+    -- how the pass goes on after what a line came to
+    abbrev onward : Coming → List ℕ → ℕ → Passed
+    onward c after next = cond (isOver c) (passed (endsIn c t after) after) (passesOn left s next (n + 1) (raised (recordOf c) t) after)
+
+    took : (e : Record) (next : ℕ) → lineAt s at ≡ read.Taken e next → (o : Outcome) → lineStep n e (ledgerOf ws) ≡ o
+        → onward (onTake (replyTo o) n e) (booked ws n e) next .report ≡ onOutcome o (λ l′. lines left s next (n + 1) l′ (raised e t)) n
+    unfolding isOver recordOf
+    took e next q (refused m) p = refl
+    took e next q (went l′) p =
+        let a : went (ledgerOf (booked ws n e)) ≡ went l′ = ap (λ (o : Outcome). cameTo (replyTo o) (booked ws n e)) (sym p) ∙ stepped s at n t ws whole few reached e next q ∙ p in
+        let b : ledgerOf (booked ws n e) ≡ l′ = cc in
+        rest next (raised e t) (booked ws n e) (booked-length ws n e ∙ whole) (subst (λ (l : Ledger). Reached (n + 1) l (raised e t)) (sym b) (reached-more e l′ reached p))
+        ∙ ap (λ (l : Ledger). lines left s next (n + 1) l (raised e t)) b
+
+    any-line : (l : Line) → lineAt s at ≡ l
+        → onward (taken ws n (comesTo n l)) (wordsAfter ws n (comesTo n l)) (placeAfter l at) .report
+        ≡ onLine l (reportOn (ledgerOf ws) t) (λ e next. onOutcome (lineStep n e (ledgerOf ws)) (λ l′. lines left s next (n + 1) l′ (raised e t)) n) n
+    unfolding comesTo taken wordsAfter isOver placeAfter
+    any-line (read.Taken e next) q = rw (le-ltb 4096 n few) (took e next q (lineStep n e (ledgerOf ws)) refl)
+    any-line read.Bad q = rw (le-ltb 4096 n few)
+    any-line read.End q = refl
+
+-- from a place on
+pass-lines : (left : ℕ) (s : List ℕ) (at n : ℕ) (t : Totals) (ws : List ℕ) → left + n ≡ 4097 → length ws ≡ wordCount → Reached n (ledgerOf ws) t
+    → passesOn left s at n t ws .report ≡ lines left s at n (ledgerOf ws) t
+unfolding passesOn lines
+pass-lines zero s at n t ws sum whole reached = last-line s at n t ws (omega (arith, sum)) (lineAt s at) refl
+pass-lines (suc left) s at n t ws sum whole reached =
+    any-line left s at n t ws whole (omega (arith, sum)) reached (λ at′ t′ ws′. pass-lines left s at′ (n + 1) t′ ws′ (omega (arith, sum))) (lineAt s at) refl
+
+-- words whose three counts are 0 stand for the blank ledger
+blank-counts : (ws : List ℕ) (a b c : ℕ) → a ≡ 0 → b ≡ 0 → c ≡ 0 → record { rows = rowsOf ws a; seens = seensOf ws b; judged = judgedOf ws c } ≡ blank
 unfolding rowsOf seensOf judgedOf
-blank-first b = refl
+blank-counts ws a b c p q r = rw (p, q, r)
 
--- what the step on the columns comes to is the step of the meaning: there is room for what it records
-module _ (s : List ℕ) (at next n : ℕ) (e : Record) (k : Counts) (b : Books) {t : Totals} (few : n ≤ 4096) (reached : Reached n (ledgerOf k b) t) (there : lineAt s at ≡ read.the-variants.Taken e next) where
-  pub steps : {o : Outcome} → (k .seens < 4096 → (isOpen (rowOf (ledgerOf k b .rows) (nameOf e)) ≡ true → k .judged < 512) → o ≡ lineStep n (tidy e) (ledgerOf k b)) → o ≡ lineStep n e (ledgerOf k b)
-  steps f =
-      f (omega (arith, reached .number, seens-most (reached .taken), seens-length (b .reads) (min (k .seens) 4096)))
-      (λ o. omega (arith, judged-room (reached .taken) (omega (arith, reached .number)) (nameOf e) o, judged-length (b .verdicts) (min (k .judged) 512)))
-      ∙ ap (λ (d : Record). lineStep n d (ledgerOf k b)) (tidied e (line-reads s at there .form))
+-- the pass over the whole text
+pub passes-lines : (s ws : List ℕ) → length ws ≡ wordCount → rowCount ws ≡ 0 → readCount ws ≡ 0 → verdictCount ws ≡ 0
+    → passes s 0 1 noTotals ws .report ≡ lines 4096 s 0 1 blank noTotals
+passes-lines s ws whole p q r =
+    let e : ledgerOf ws ≡ blank = blank-counts ws (rowCount ws) (readCount ws) (verdictCount ws) p q r in
+    pass-lines 4096 s 0 1 noTotals ws refl whole (subst (λ (l : Ledger). Reached 1 l noTotals) (sym e) reached-first) ∙ ap (λ (l : Ledger). lines 4096 s 0 1 l noTotals) e
 
--- what is left gives the whole answer
-pub record Left (s : List ℕ) (at n : ℕ) (l : Ledger) (t : Totals) (answer : Report) : Type 0 where
-  pub least : 1 ≤ n
-  pub most : n ≤ 4097
-  pub rest : lines (4097 - n) s at n l t ≡ answer
-  pub reached : Reached n l t
-
-pub left-first : (s : List ℕ) {l : Ledger} → l ≡ blank → Left s 0 1 l noTotals (lines 4096 s 0 1 blank noTotals)
-left-first s e = rw e (record { least = omega arith; most = omega arith; rest = refl; reached = reached-first })
-
-module _ {s : List ℕ} {at n : ℕ} {l : Ledger} {t : Totals} {answer : Report} (left : Left s at n l t answer) where
-  module _ (few : n ≤ 4096) where
-    opened : onLine (lineAt s at) (reportOn l t) (λ e next. onOutcome (lineStep n e l) (λ l′. lines (4096 - n) s next (n + 1) l′ (raised e t)) n) n ≡ answer
-    unfolding lines
-    opened =
-        let e : 4097 - n ≡ suc (4096 - n) = omega arith in
-        rw e at (left .rest)
-
-    pub at-bad : lineAt s at ≡ read.the-variants.Bad → said.refused 13 n ≡ answer
-    at-bad q = rw q at opened
-
-    pub at-end : lineAt s at ≡ read.the-variants.End → reportOn l t ≡ answer
-    at-end q = rw q at opened
-
-    module _ {e : Record} {next : ℕ} (there : lineAt s at ≡ read.the-variants.Taken e next) where
-      taken : onOutcome (lineStep n e l) (λ l′. lines (4096 - n) s next (n + 1) l′ (raised e t)) n ≡ answer
-      taken = rw there at opened
-
-      at-refused : {f : ℕ} → refused f ≡ lineStep n e l → said.refused f n ≡ answer
-      at-refused q = rw (← q) at taken
-
-      at-went : {l′ : Ledger} → went l′ ≡ lineStep n e l → Left s next (n + 1) l′ (raised e t) answer
-      at-went {l′} q =
-          let d : 4097 - (n + 1) ≡ 4096 - n = omega arith in
-          record { least = omega arith; most = omega arith; rest = rw d (rw (← q) at taken); reached = reached-more e l′ (left .reached) (sym q) }
-
-  module _ (many : 4096 < n) where
-    over : cond (leb (length s) at) (reportOn l t) (said.refused 14 n) ≡ answer
-    unfolding lines
-    over =
-        let e : 4097 - n ≡ 0 = omega (arith, left .most) in
-        rw e at (left .rest)
-
-    pub over-more : at < length s → said.refused 14 n ≡ answer
-    over-more h = rw (lt-leb (length s) at h) at over
-
-    pub over-done : length s ≤ at → reportOn l t ≡ answer
-    over-done h = rw (le-leb (length s) at h) at over
-
--- what the step on the columns answered
-module _ (s : List ℕ) (at next n : ℕ) (e : Record) (k : Counts) (b : Books) {t : Totals} {answer : Report} (left : Left s at n (ledgerOf k b) t answer) (few : n ≤ 4096)
-    (there : lineAt s at ≡ read.the-variants.Taken e next) (r : took.Taken) (c : Books)
-    (meant : k .seens < 4096 → (isOpen (rowOf (ledgerOf k b .rows) (nameOf e)) ≡ true → k .judged < 512) → outcome (booking r c) ≡ lineStep n (tidy e) (ledgerOf k b)) where
-  stepped : outcome (booking r c) ≡ lineStep n e (ledgerOf k b)
-  stepped = steps s at next n e k b few (left .reached) there meant
-
-  pub line-refused : {f : Refusal} → r ≡ took.the-variants.Refused f → said.refused (numberOf f) n ≡ answer
-  line-refused q = at-refused left few there (ap (λ (x : took.Taken). outcome (booking x c)) (sym q) ∙ stepped)
-
-  pub line-went : {k′ : Counts} {t′ : Totals} → r ≡ took.the-variants.Went k′ → t′ ≡ raised e t → Left s next (n + 1) (ledgerOf k′ c) t′ answer
-  line-went {k′} {t′} q h = rw h (at-went left few there (ap (λ (x : took.Taken). outcome (booking x c)) (sym q) ∙ stepped))
+-- and on the words as `judge` makes them
+pub zero-words : (s : List ℕ) → passes s 0 1 noTotals (replicate wordCount 0) .report ≡ lines 4096 s 0 1 blank noTotals
+zero-words s = passes-lines s (replicate wordCount 0) (length-replicate {A = ℕ} wordCount 0) refl refl refl

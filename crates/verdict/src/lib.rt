@@ -88,7 +88,7 @@ fn run(text: &[u8], memory: &mut [u32; WORDS]) -> Ran
     let mut line = 1;
     loop {
         let l = next(&mut reader);
-        let c = came(line, l);
+        let c = comes_to(line, l);
         let k = take_line(memory, line, c);
         if finished(k) {
             return ran_to(k, totals);
@@ -99,7 +99,7 @@ fn run(text: &[u8], memory: &mut [u32; WORDS]) -> Ran
 }
 
 // 14 before 13.
-fn came(line: u32, l: Line) -> Came
+fn comes_to(line: u32, l: Line) -> Came
     ensures { λ r. ⌜ comingOf r ≡ comesTo line l ⌝ }
 {
     match l {
