@@ -37,7 +37,7 @@ use contract.BorrowLft.{meet-⊑-left, meet-⊑-right}
 use types.SemTy as sem-ty
 use denote.Plain.{Boolean, uint-makes, bool-lawful}
 use denote.Array.{Array}
-use denote.Builtin.{u8, u32, u64, usize, unit, ArrayOf}
+use denote.Builtin.{u8, u32, usize, unit, ArrayOf}
 use denote.Ref.{RefT, MutRef, NamedLft, ptr-vals, mut-tells, now}
 use denote.Signature.{plain}
 use denote.Slice.{sliceTy, sliceVal, ShrSlice, slice-vals, shr-slice-tells, shr-slice-lawful, shr-slice-copy}
@@ -128,10 +128,10 @@ peel zero b = b
 peel (suc n) b = peel n (behind b)
 
 abbrev stayed : Stays (f.ended .signature .params) (f.ended .kept)
-stayed = (stay-none-slice (0 ∷ []) tt (plain (λ _. u8)) yes, (stay-ref (1 ∷ []) tt (ArrayOf (plain (λ _. u64)) (λ κs. tt) 17411), tt))
+stayed = (stay-none-slice (0 ∷ []) tt (plain (λ _. u8)) yes, (stay-ref (1 ∷ []) tt (ArrayOf (plain (λ _. u32)) (λ κs. tt) 17923), tt))
 
 abbrev Words : RattleType
-Words = Array u64 17411
+Words = Array u32 17923
 
 -- a turn's state: the place, the line's number, the totals and the ledger, where what is left gives the whole answer
 record Turn (s : List ℕ) (whole : Passed) : Type 0 where
@@ -575,7 +575,7 @@ module _ {M : Type 1} (𝓤 : URA M) (H : Heap 𝓤) (A : Atoms 𝓤) (W : Given
   meets : (𝓣 : Tables 𝓤 H) → Triple 𝓤 (𝓣 .C #reader·next) (Next 𝓤 H A at-mem run) → Triple 𝓤 (𝓣 .C #verdict·comes-to) (What 𝓤 H A at-mem run) → Triple 𝓤 (𝓣 .C #verdict·take-line) (Take 𝓤 H A at-mem run) → Triple 𝓤 (𝓣 .C #verdict·finished) (Finished 𝓤 H A at-mem run) → Triple 𝓤 (𝓣 .C #verdict·ran-to) (RanTo 𝓤 H A at-mem run) → Triple 𝓤 (𝓣 .C #verdict·record-of) (RecordOf 𝓤 H A at-mem run) → Triple 𝓤 (𝓣 .C #totals·raise) (Raise 𝓤 H A at-mem run)
       → Meets 𝓤 H A f.signature (WpFn 𝓤 H (𝓣 .C) (𝓣 .Λ) code.function) (f.spec 𝓤 H A at-mem run)
   meets 𝓣 known-next known-comes-to known-take-line known-finished known-ran-to known-record-of known-raise =
-      walk-meets 𝓤 H A f.ended stayed W (goes-none-slice 𝓤 H A W 2 (0 ∷ []) tt (plain (λ _. u8)) yes, (goes-ref 𝓤 H A W 2 1 tt (ArrayOf (plain (λ _. u64)) (λ κs. tt) 17411), tt)) (f.clauses 𝓤 H A at-mem run)
+      walk-meets 𝓤 H A f.ended stayed W (goes-none-slice 𝓤 H A W 2 (0 ∷ []) tt (plain (λ _. u8)) yes, (goes-ref 𝓤 H A W 2 1 tt (ArrayOf (plain (λ _. u32)) (λ κs. tt) 17923), tt)) (f.clauses 𝓤 H A at-mem run)
       (WpFn 𝓤 H (𝓣 .C) (𝓣 .Λ) code.function) (WpFn-mono 𝓤 H (W .laws) 𝓣 code.function)
       (walked 𝓤 H A f.ended stayed (f.clauses 𝓤 H A at-mem run) (WpFn 𝓤 H (𝓣 .C) (𝓣 .Λ) code.function)
       (λ κs. (slice-vals, (ptr-vals, tt))) (λ κs. (shr-slice-tells (named 0) (κs .0) u8, (mut-tells (named 1) (κs .1 .0) Words, tt)))
