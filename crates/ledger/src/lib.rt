@@ -78,7 +78,7 @@ fn fresh_row(line: u32, name: u32) -> Row
     }
 }
 
-// Any other record of an open transaction: what it does to its row, which stands at a place.
+// Any other record of an open transaction, whose row stands at a place. A start does not come here; it would change nothing of its row.
 fn settle(memory: &mut [u64; WORDS], line: u32, e: Record, place: usize, row: Row)
     ensures { λ _. ⌜ now (memory .exit) ≡ settled (now (memory .entry)) line e place row ⌝ }
 {

@@ -2,3 +2,4 @@ pub mod Words
 pub mod Walk
 pub mod Lines
 pub mod Stored
+pub mod Determined

@@ -1,15 +1,26 @@
--- The resolved line of the meaning in terms of the row that the code loads.
+-- The resolved line of the meaning in terms of the row that the code loads; and no version before line 0.
 use Prim.Native.Nat.{ℕ}
+use native.Mathlib.Omega.{arith}
 use mathlib.Core.Path.{_≡_, sym, ap, _∙_}
-use mathlib.Core.Bool.{cond, _&&_}
+use mathlib.Core.Bool.{cond, _&&_, and-false}
 use mathlib.Core.List.{List}
 use lib.Dec.{ltb}
-use borrow.Author.Tests.{ne-eqb}
-use Rattle.records.specs.Ledger.{has, nowhere, resolved, rowOf}
+use borrow.Author.Tests.{le-ltb, ne-eqb}
+use Rattle.lists.proofs.Every.{every-each}
+use Rattle.lists.proofs.Count.{count-none}
+use Rattle.records.specs.Ledger.{has, nowhere, resolved, rowOf, rowsBetween, madeBetween}
 use Rattle.records.specs.declared.Row.{Row}
 use Rattle.book.specs.Book.{rowsIn, rowLoaded}
 use Rattle.rows.specs.Table.{placeOf}
 use Rattle.rows.proofs.Walk.{row-of}
+
+-- nothing is committed before line 0
+pub between-none : (rows : List Row) (x after before : ℕ) → before ≡ 0 → 0 ≡ rowsBetween rows x after before
+unfolding rowsBetween
+between-none rows x after before e =
+    sym
+    (count-none (madeBetween x after before)
+    (every-each (λ r. rw (e, le-ltb (r .end) 0 (omega arith), and-false (ltb after (r .end))) (and-false (has (r .keys) x))) rows))
 
 module _ (ws : List ℕ) (w x : ℕ) where
   pub resolve-start : w ≡ 0 → 0 ≡ resolved (rowsIn ws) w x
