@@ -3,17 +3,17 @@ use Prim.Native.Nat.{ℕ, zero, suc, _+_, _-_, _≤_, _<_}
 use native.Mathlib.Decide.{decLt}
 use native.Mathlib.Omega.{arith}
 use mathlib.Core.Path.{_≡_, refl, sym, ap, _∙_, subst}
-use mathlib.Core.Bool.{Bool, true, false, cond}
+use mathlib.Core.Bool.{cond}
 use mathlib.Core.List.{List, [], _∷_}
 use borrow.Author.Tests.{le-leb, lt-leb, lt-ltb, le-ltb}
-use lib.Dec.{leb, ltb}
-use lib.ListN.{length, getD, replicate, length-replicate}
+use lib.Dec.{leb}
+use lib.ListN.{length, replicate, length-replicate}
 use Rattle.records.specs.Parts.{partsOf, nameOf}
 use Rattle.records.specs.declared.Record.{Record}
 use Rattle.records.specs.declared.Record.the-variants.{Start, Tune, Read, Write, Commit, Abort}
 use Rattle.records.specs.declared.Totals.{Totals}
 use Rattle.records.specs.Written.{History}
-use Rattle.records.specs.Ledger.{Ledger, Outcome, refused, went, blank, rowOf, isOpen, lineStep}
+use Rattle.records.specs.Ledger.{Ledger, Outcome, refused, went, blank, lineStep}
 use Rattle.records.specs.Totals.{noTotals, raised}
 use Rattle.records.specs.Tally.{totalsOf}
 use Rattle.records.specs.Judge.{Taken, nothing, line}
@@ -24,11 +24,11 @@ use Rattle.history.specs.Text.{InForm}
 use Rattle.history.proofs.Reading.{line-reads, end-exactly, bad-exactly}
 use Rattle.reader.specs.Reader.{placeAfter}
 use Rattle.book.specs.Layout.{wordCount}
-use Rattle.book.specs.Book.{ledgerOf, rowsIn, seensIn, judgedIn, rowsOf, seensOf, judgedOf, rowCount, readCount, verdictCount}
+use Rattle.book.specs.Book.{ledgerOf, rowsOf, seensOf, judgedOf, rowCount, readCount, verdictCount}
 use Rattle.book.proofs.Laws.{seens-length, judged-length}
-use Rattle.ledger.specs.Take.{replyTo, cameTo, tidy, booked, Bounded}
+use Rattle.ledger.specs.Take.{replyTo, cameTo, booked, Bounded}
 use Rattle.ledger.proofs.After.{tidy-same, ledger-after, booked-length}
-use Rattle.verdict.specs.Judge.{Report, judged, reportOn, onLine, onOutcome, lines}
+use Rattle.verdict.specs.Judge.{judged, reportOn, onLine, onOutcome, lines}
 use Rattle.verdict.specs.Judge as said
 use Rattle.verdict.specs.Pass.{Coming, onTake, comesTo, taken, wordsAfter, isOver, recordOf, endsIn, Passed, passed, passesOn, passes}
 use Rattle.verdict.proofs.Limits.{seens-most, judged-room}

@@ -3,7 +3,7 @@ use Prim.Native.Nat.{ℕ, zero, suc, _+_, _-_, _≤_, _<_}
 use native.Mathlib.Decide.{decLt}
 use native.Mathlib.Omega.{arith}
 use mathlib.Core.Path.{_≡_, refl, sym, ap, _∙_}
-use mathlib.Core.Bool.{Bool, true, false, false≢true}
+use mathlib.Core.Bool.{true, false, false≢true}
 use mathlib.Core.List.{List}
 use borrow.Author.Tests.{lt-ltb}
 use Rattle.records.specs.Totals.{raised}
@@ -15,7 +15,7 @@ use Rattle.history.specs.declared.Line.the-variants as line
 use Rattle.history.proofs.Determined.{line-inj}
 use Rattle.reader.specs.Reader.{placeAfter}
 use Rattle.verdict.specs.Judge.{Report}
-use Rattle.verdict.specs.Pass.{Coming, comesTo, taken, wordsAfter, isOver, recordOf, endsIn, Passed, passed, passesOn, passes}
+use Rattle.verdict.specs.Pass.{Coming, comesTo, taken, wordsAfter, isOver, recordOf, endsIn, passed, passesOn, passes}
 
 module _ (s : List ℕ) (at n : ℕ) (t : Totals) (ws : List ℕ) where
   -- what the line there comes to, before it is taken and after, and the words after it
