@@ -21,7 +21,7 @@ use Rattle.verdict.specs.declared.Ran.{Ran}
 use Rattle.verdict.specs.declared.Ran.the-variants.{Done, Refused}
 use Rattle.verdict.specs.Judge.{Report, judged, lines, reportOf}
 use Rattle.verdict.specs.Reply.{Reply, bytes, refusedAt, replied, roomAfter}
-use Rattle.verdict.specs.Pass.{ranTo, Passed, passed, passes}
+use Rattle.verdict.specs.Pass.{ranTo, PassEnd, passEnd, passes}
 use Rattle.verdict.proofs.Pass.{zero-words}
 
 -- ---- the report written, or without room
@@ -55,9 +55,9 @@ module _ (s room : List ℕ) where
     short = rw (le-ltb 65536 (length s) h)
 
     -- what the pass over words that are 0 came to
-    module _ {r : Ran} {ws : List ℕ} (p : passed (ranTo r ws) ws ≡ passes s 0 1 noTotals (replicate wordCount 0)) where
+    module _ {r : Ran} {ws : List ℕ} (p : passEnd (ranTo r ws) ws ≡ passes s 0 1 noTotals (replicate wordCount 0)) where
       is : {q : Ran} → r ≡ q → ranTo q ws ≡ reportOf s
-      is e = ap (λ (x : Ran). ranTo x ws) (sym e) ∙ ap (λ (x : Passed). x .report) p ∙ zero-words s ∙ sym short
+      is e = ap (λ (x : Ran). ranTo x ws) (sym e) ∙ ap (λ (x : PassEnd). x .report) p ∙ zero-words s ∙ sym short
 
       pub judge-refused : {f : Refusal} {line : ℕ} → r ≡ Refused f line → (refusedAt (numberOf f) line ≡ replied (reportOf s) room) × (room ≡ roomAfter (reportOf s) room)
       judge-refused e = (ap (λ (x : Report). replied x room) (is e), ap (λ (x : Report). roomAfter x room) (is e))

@@ -30,7 +30,7 @@ use Rattle.ledger.specs.Take.{replyTo, cameTo, booked, Bounded}
 use Rattle.ledger.proofs.After.{tidy-same, ledger-after, booked-length}
 use Rattle.verdict.specs.Judge.{judged, reportOn, onLine, onOutcome, lines}
 use Rattle.verdict.specs.Judge as said
-use Rattle.verdict.specs.Pass.{Coming, onTake, comesTo, taken, wordsAfter, isOver, recordOf, endsIn, Passed, passed, passesOn, passes}
+use Rattle.verdict.specs.Pass.{CameReply, onTake, comesTo, afterTake, wordsAfter, isOver, recordOf, endsIn, PassEnd, passEnd, passesOn, passes}
 use Rattle.verdict.proofs.Limits.{seens-most, judged-room}
 
 -- the lines before this one were taken, and led to this ledger and these totals
@@ -96,8 +96,8 @@ module _ (s : List ℕ) (at n : ℕ) (t : Totals) (ws : List ℕ) (late : 4096 <
           absurd (omega arith)
 
   last-line : (l : Line) → lineAt s at ≡ l
-      → endsIn (taken ws n (comesTo n l)) t (wordsAfter ws n (comesTo n l)) ≡ cond (leb (length s) at) (reportOn (ledgerOf ws) t) (said.refused 14 n)
-  unfolding comesTo taken wordsAfter
+      → endsIn (afterTake ws n (comesTo n l)) t (wordsAfter ws n (comesTo n l)) ≡ cond (leb (length s) at) (reportOn (ledgerOf ws) t) (said.refused 14 n)
+  unfolding comesTo afterTake wordsAfter
   last-line (read.Taken e next) q = rw (lt-ltb 4096 n late, lt-leb (length s) at (more e next q))
   last-line read.Bad q = rw (lt-ltb 4096 n late, lt-leb (length s) at (bad-exactly s at .0 q .0))
   last-line read.End q = rw (le-leb (length s) at (end-exactly s at .0 q))
@@ -107,8 +107,8 @@ module _ (left : ℕ) (s : List ℕ) (at n : ℕ) (t : Totals) (ws : List ℕ) (
     (rest : (at′ : ℕ) (t′ : Totals) (ws′ : List ℕ) → length ws′ ≡ wordCount → Reached (n + 1) (ledgerOf ws′) t′ → passesOn left s at′ (n + 1) t′ ws′ .report ≡ lines left s at′ (n + 1) (ledgerOf ws′) t′)
   where
     -- how the pass goes on after what a line came to
-    abbrev onward : Coming → List ℕ → ℕ → Passed
-    onward c after next = cond (isOver c) (passed (endsIn c t after) after) (passesOn left s next (n + 1) (raised (recordOf c) t) after)
+    abbrev onward : CameReply → List ℕ → ℕ → PassEnd
+    onward c after next = cond (isOver c) (passEnd (endsIn c t after) after) (passesOn left s next (n + 1) (raised (recordOf c) t) after)
 
     took : (e : Record) (next : ℕ) → lineAt s at ≡ read.Taken e next → (o : Outcome) → lineStep n e (ledgerOf ws) ≡ o
         → onward (onTake (replyTo o) n e) (booked ws n e) next .report ≡ onOutcome o (λ l′. lines left s next (n + 1) l′ (raised e t)) n
@@ -121,9 +121,9 @@ module _ (left : ℕ) (s : List ℕ) (at n : ℕ) (t : Totals) (ws : List ℕ) (
         ∙ ap (λ (l : Ledger). lines left s next (n + 1) l (raised e t)) b
 
     any-line : (l : Line) → lineAt s at ≡ l
-        → onward (taken ws n (comesTo n l)) (wordsAfter ws n (comesTo n l)) (placeAfter l at) .report
+        → onward (afterTake ws n (comesTo n l)) (wordsAfter ws n (comesTo n l)) (placeAfter l at) .report
         ≡ onLine l (reportOn (ledgerOf ws) t) (λ e next. onOutcome (lineStep n e (ledgerOf ws)) (λ l′. lines left s next (n + 1) l′ (raised e t)) n) n
-    unfolding comesTo taken wordsAfter isOver placeAfter
+    unfolding comesTo afterTake wordsAfter isOver placeAfter
     any-line (read.Taken e next) q = rw (le-ltb 4096 n few) (took e next q (lineStep n e (ledgerOf ws)) refl)
     any-line read.Bad q = rw (le-ltb 4096 n few)
     any-line read.End q = refl

@@ -6,7 +6,7 @@ ghost use Rattle.records.specs.Totals.{noTotals};
 ghost use Rattle.book.specs.Book.{judgedIn};
 ghost use Rattle.verdict.specs.Judge.{judged, reportOf};
 ghost use Rattle.verdict.specs.Reply.{replyOf, replied, roomAfter};
-ghost use Rattle.verdict.specs.Pass.{comingOf, comesTo, taken, wordsAfter, isOver, recordOf, ranTo, endsIn, passed, passes};
+ghost use Rattle.verdict.specs.Pass.{cameReply, comesTo, afterTake, wordsAfter, isOver, recordOf, ranTo, endsIn, passEnd, passes};
 use book::WORDS;
 use history::Line;
 use ledger::Taken;
@@ -81,7 +81,7 @@ fn finish(room: &mut [u8], memory: &[u32; WORDS], totals: Totals) -> Answer
 // The lines from the first on, and the memory as it is lent. One reader goes from the first line to the last, and the totals are the ones that are
 // handed over at the end: both are lent to the functions that move them, so this is proved by hand.
 fn run(text: &[u8], memory: &mut [u32; WORDS]) -> Ran
-    ensures { λ r. ⌜ passed (ranTo r (now (memory .exit))) (now (memory .exit)) ≡ passes (now (text .entry)) 0 1 noTotals (now (memory .entry)) ⌝ }
+    ensures { λ r. ⌜ passEnd (ranTo r (now (memory .exit))) (now (memory .exit)) ≡ passes (now (text .entry)) 0 1 noTotals (now (memory .entry)) ⌝ }
 {
     let mut reader = Reader { text, at: 0 };
     let mut totals = NO_TOTALS;
@@ -100,7 +100,7 @@ fn run(text: &[u8], memory: &mut [u32; WORDS]) -> Ran
 
 // 14 before 13.
 fn comes_to(line: u32, l: Line) -> Came
-    ensures { λ r. ⌜ comingOf r ≡ comesTo line l ⌝ }
+    ensures { λ r. ⌜ cameReply r ≡ comesTo line l ⌝ }
 {
     match l {
         Line::End => Came::End,
@@ -121,8 +121,8 @@ fn comes_to(line: u32, l: Line) -> Came
 
 // A record goes into the ledger, which may refuse it.
 fn take_line(memory: &mut [u32; WORDS], line: u32, c: Came) -> Came
-    ensures reply { λ r. ⌜ comingOf r ≡ taken (now (memory .entry)) line (comingOf c) ⌝ }
-    ensures memory { λ _. ⌜ now (memory .exit) ≡ wordsAfter (now (memory .entry)) line (comingOf c) ⌝ }
+    ensures reply { λ r. ⌜ cameReply r ≡ afterTake (now (memory .entry)) line (cameReply c) ⌝ }
+    ensures memory { λ _. ⌜ now (memory .exit) ≡ wordsAfter (now (memory .entry)) line (cameReply c) ⌝ }
 {
     match c {
         Came::Record(e) => match take(memory, line, e) {
@@ -135,7 +135,7 @@ fn take_line(memory: &mut [u32; WORDS], line: u32, c: Came) -> Came
 }
 
 fn finished(k: Came) -> bool
-    ensures { λ r. ⌜ r ≡ isOver (comingOf k) ⌝ }
+    ensures { λ r. ⌜ r ≡ isOver (cameReply k) ⌝ }
 {
     match k {
         Came::Record(_) => false,
@@ -145,7 +145,7 @@ fn finished(k: Came) -> bool
 }
 
 fn ran_to(k: Came, totals: Totals) -> Ran
-    ensures { λ r. ⌜ ((ws : List ℕ) → ranTo r ws ≡ endsIn (comingOf k) totals ws) ⌝ }
+    ensures { λ r. ⌜ ((ws : List ℕ) → ranTo r ws ≡ endsIn (cameReply k) totals ws) ⌝ }
 {
     match k {
         Came::Record(_) => Ran::Done(totals),
@@ -155,7 +155,7 @@ fn ran_to(k: Came, totals: Totals) -> Ran
 }
 
 fn record_of(k: Came) -> Record
-    ensures { λ r. ⌜ r ≡ recordOf (comingOf k) ⌝ }
+    ensures { λ r. ⌜ r ≡ recordOf (cameReply k) ⌝ }
 {
     match k {
         Came::Record(e) => e,

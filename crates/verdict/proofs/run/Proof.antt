@@ -61,7 +61,7 @@ use Rattle.history.specs.declared.Line.{Line}
 use Rattle.history.proofs.Line as L
 use Rattle.history.proofs.Line.Laws as L′
 use Rattle.reader.specs.Reader.{placeAfter, movedBy}
-use Rattle.verdict.specs.Pass.{comingOf, comesTo, taken, wordsAfter, isOver, recordOf, ranTo, endsIn, Passed, passed, passes}
+use Rattle.verdict.specs.Pass.{cameReply, comesTo, afterTake, wordsAfter, isOver, recordOf, ranTo, endsIn, PassEnd, passEnd, passes}
 use Rattle.reader.specs.declared.Reader.{Reader}
 use Rattle.verdict.specs.declared.Came.{Came}
 use Rattle.verdict.specs.declared.Ran.{Ran}
@@ -134,7 +134,7 @@ abbrev Words : RattleType
 Words = Array u32 17923
 
 -- a turn's state: the place, the line's number, the totals and the ledger, where what is left gives the whole answer
-record Turn (s : List ℕ) (whole : Passed) : Type 0 where
+record Turn (s : List ℕ) (whole : PassEnd) : Type 0 where
   at : ℕ
   line : ℕ
   total : Totals
@@ -184,17 +184,17 @@ module _ {M : Type 1} (𝓤 : URA M) (H : Heap 𝓤) (A : Atoms 𝓤) (at-mem : 
   abbrev Raise : Contract 𝓤
   Raise = tripleOf 𝓤 H A raise.signature (raise.spec 𝓤 H A at-mem run)
 
-  told-what : (line : ℕ) (l : Line) (r : Came) → ent 𝓤 (ensured 𝓤 H A comes-to.ended (comes-to.clauses 𝓤 H A at-mem run) tt (line, (l, tt)) tt r) (fact 𝓤 (comingOf r ≡ comesTo line l))
-  told-what line l r = exE 𝓤 _ (λ ws. snd∗ 𝓤 (sem 𝓤 H A (lasts comes-to.ended tt (line, (l, tt)) ws)) (fact 𝓤 (comingOf r ≡ comesTo line l)))
+  told-what : (line : ℕ) (l : Line) (r : Came) → ent 𝓤 (ensured 𝓤 H A comes-to.ended (comes-to.clauses 𝓤 H A at-mem run) tt (line, (l, tt)) tt r) (fact 𝓤 (cameReply r ≡ comesTo line l))
+  told-what line l r = exE 𝓤 _ (λ ws. snd∗ 𝓤 (sem 𝓤 H A (lasts comes-to.ended tt (line, (l, tt)) ws)) (fact 𝓤 (cameReply r ≡ comesTo line l)))
 
-  told-finished : (k : Came) (r : Bool) → ent 𝓤 (ensured 𝓤 H A finished.ended (finished.clauses 𝓤 H A at-mem run) tt (k, tt) tt r) (fact 𝓤 (r ≡ isOver (comingOf k)))
-  told-finished k r = exE 𝓤 _ (λ ws. snd∗ 𝓤 (sem 𝓤 H A (lasts finished.ended tt (k, tt) ws)) (fact 𝓤 (r ≡ isOver (comingOf k))))
+  told-finished : (k : Came) (r : Bool) → ent 𝓤 (ensured 𝓤 H A finished.ended (finished.clauses 𝓤 H A at-mem run) tt (k, tt) tt r) (fact 𝓤 (r ≡ isOver (cameReply k)))
+  told-finished k r = exE 𝓤 _ (λ ws. snd∗ 𝓤 (sem 𝓤 H A (lasts finished.ended tt (k, tt) ws)) (fact 𝓤 (r ≡ isOver (cameReply k))))
 
-  told-ran : (k : Came) (t : Totals) (r : Ran) → ent 𝓤 (ensured 𝓤 H A ran-to.ended (ran-to.clauses 𝓤 H A at-mem run) tt (k, (t, tt)) tt r) (fact 𝓤 ((ws : List ℕ) → ranTo r ws ≡ endsIn (comingOf k) t ws))
-  told-ran k t r = exE 𝓤 _ (λ ws. snd∗ 𝓤 (sem 𝓤 H A (lasts ran-to.ended tt (k, (t, tt)) ws)) (fact 𝓤 ((ws : List ℕ) → ranTo r ws ≡ endsIn (comingOf k) t ws)))
+  told-ran : (k : Came) (t : Totals) (r : Ran) → ent 𝓤 (ensured 𝓤 H A ran-to.ended (ran-to.clauses 𝓤 H A at-mem run) tt (k, (t, tt)) tt r) (fact 𝓤 ((ws : List ℕ) → ranTo r ws ≡ endsIn (cameReply k) t ws))
+  told-ran k t r = exE 𝓤 _ (λ ws. snd∗ 𝓤 (sem 𝓤 H A (lasts ran-to.ended tt (k, (t, tt)) ws)) (fact 𝓤 ((ws : List ℕ) → ranTo r ws ≡ endsIn (cameReply k) t ws)))
 
-  told-record : (k : Came) (r : Record) → ent 𝓤 (ensured 𝓤 H A record-of.ended (record-of.clauses 𝓤 H A at-mem run) tt (k, tt) tt r) (fact 𝓤 (r ≡ recordOf (comingOf k)))
-  told-record k r = exE 𝓤 _ (λ ws. snd∗ 𝓤 (sem 𝓤 H A (lasts record-of.ended tt (k, tt) ws)) (fact 𝓤 (r ≡ recordOf (comingOf k))))
+  told-record : (k : Came) (r : Record) → ent 𝓤 (ensured 𝓤 H A record-of.ended (record-of.clauses 𝓤 H A at-mem run) tt (k, tt) tt r) (fact 𝓤 (r ≡ recordOf (cameReply k)))
+  told-record k r = exE 𝓤 _ (λ ws. snd∗ 𝓤 (sem 𝓤 H A (lasts record-of.ended tt (k, tt) ws)) (fact 𝓤 (r ≡ recordOf (cameReply k))))
 
 module _ {M : Type 1} (𝓤 : URA M) (H : Heap 𝓤) (A : Atoms 𝓤) (W : Given 𝓤 H A) (at-mem : Memory → SProp 𝓤) (run : Routine → Fun 𝓤) (κ κm₀ : Lft) (q qm₀ : Share) (bounds : AllOutlive 2 (f.signature .outlives) (κ, (κm₀, tt)))
     (s : RefT (List ℕ)) (bm₀ om₀ : ℕ) (γm₀ : GName) (m₀ : List ℕ) where
@@ -236,7 +236,7 @@ module _ {M : Type 1} (𝓤 : URA M) (H : Heap 𝓤) (A : Atoms 𝓤) (W : Given
   abbrev vals : List Val × (List Val × Unit {0})
   vals = (v ∷ [], (vptr bm₀ om₀ ∷ [], tt))
 
-  abbrev whole : Passed
+  abbrev whole : PassEnd
   whole = passes (now s) 0 1 noTotals m₀
 
   abbrev Post : Val → SProp 𝓤
@@ -312,7 +312,7 @@ module _ {M : Type 1} (𝓤 : URA M) (H : Heap 𝓤) (A : Atoms 𝓤) (W : Given
       move ! (1 ∷ 0 ∷ []) $ fjoin ! $ nothing ! $ move ! (2 ∷ 0 ∷ []) $ join ! $ join ! $ frame ! $ done !
 
   -- ---- the exit
-  exits : (e : Ran) (u : Val) (m : List ℕ) → passed (ranTo e m) m ≡ whole → ent 𝓤 (⋆ 𝓤 H A (‵ (E.the-row .own e (u ∷ [])) ∷ ‵ (flft κ q) ∷ ‵ Text ∷ ‵ (Mem₀ m) ∷ ‵ (flft κm₀ qm₀) ∷ [])) (Post u)
+  exits : (e : Ran) (u : Val) (m : List ℕ) → passEnd (ranTo e m) m ≡ whole → ent 𝓤 (⋆ 𝓤 H A (‵ (E.the-row .own e (u ∷ [])) ∷ ‵ (flft κ q) ∷ ‵ Text ∷ ‵ (Mem₀ m) ∷ ‵ (flft κm₀ qm₀) ∷ [])) (Post u)
   exits e u m said =
       qed W (‵ (E.the-row .own e (u ∷ [])) ∷ ‵ (flft κ q) ∷ ‵ Text ∷ ‵ (Mem₀ m) ∷ ‵ (flft κm₀ qm₀) ∷ []) ∵
       suffices ! _ (ends-at 𝓤 H A f.ended stayed (f.clauses 𝓤 H A at-mem run) W (((κ, (κm₀, tt)), (q, (qm₀, tt)), bounds, a, vals), tt) u e (tt, (m, tt)) (tt, (tt, tt))) $ says ! said $
@@ -408,33 +408,33 @@ module _ {M : Type 1} (𝓤 : URA M) (H : Heap 𝓤) (A : Atoms 𝓤) (W : Given
     Line-at i l = l ≡ lineAt (now s) (i .at)
 
     abbrev Asked : At-turn → Line → Came → Type 0
-    Asked i l w = comingOf w ≡ comesTo (i .line) l
+    Asked i l w = cameReply w ≡ comesTo (i .line) l
 
     abbrev Took : At-turn → Came → Came → Type 0
-    Took i w k = comingOf k ≡ taken (i .book) (i .line) (comingOf w)
+    Took i w k = cameReply k ≡ afterTake (i .book) (i .line) (cameReply w)
 
     -- the pass is over: the answer and the words are the whole's
-    ended-here : (i : At-turn) (l : Line) (w k : Came) → Line-at i l → Asked i l w → Took i w k → isOver (comingOf k) ≡ true → (e : Ran) → ((ws : List ℕ) → ranTo e ws ≡ endsIn (comingOf k) (i .total) ws)
-        → passed (ranTo e (wordsAfter (i .book) (i .line) (comingOf w))) (wordsAfter (i .book) (i .line) (comingOf w)) ≡ whole
+    ended-here : (i : At-turn) (l : Line) (w k : Came) → Line-at i l → Asked i l w → Took i w k → isOver (cameReply k) ≡ true → (e : Ran) → ((ws : List ℕ) → ranTo e ws ≡ endsIn (cameReply k) (i .total) ws)
+        → passEnd (ranTo e (wordsAfter (i .book) (i .line) (cameReply w))) (wordsAfter (i .book) (i .line) (cameReply w)) ≡ whole
     ended-here i l w k el ew ek fin e ee =
-        turn-over (now s) (i .at) (i .line) (i .total) (i .book) l (comingOf w) (comingOf k) el ew ek fin (ee (wordsAfter (i .book) (i .line) (comingOf w))) ∙ i .rest
+        turn-over (now s) (i .at) (i .line) (i .total) (i .book) l (cameReply w) (cameReply k) el ew ek fin (ee (wordsAfter (i .book) (i .line) (cameReply w))) ∙ i .rest
 
-    abbrev onward : (i : At-turn) (l : Line) (w k : Came) (e : Record) → Line-at i l → Asked i l w → Took i w k → e ≡ recordOf (comingOf k) → Is T.the-row (raised e (i .total)) (T′.lowered (raised e (i .total)) ∷ []) → isOver (comingOf k) ≡ false → At-turn
+    abbrev onward : (i : At-turn) (l : Line) (w k : Came) (e : Record) → Line-at i l → Asked i l w → Took i w k → e ≡ recordOf (cameReply k) → Is T.the-row (raised e (i .total)) (T′.lowered (raised e (i .total)) ∷ []) → isOver (cameReply k) ≡ false → At-turn
     onward i l w k e el ew ek er fit un =
-        let h : i .line ≤ 4096 = turn-few (now s) (i .at) (i .line) (i .total) (i .book) l (comingOf w) (comingOf k) el ew ek un in
+        let h : i .line ≤ 4096 = turn-few (now s) (i .at) (i .line) (i .total) (i .book) l (cameReply w) (cameReply k) el ew ek un in
         record {
           at = placeAfter l (i .at);
           line = i .line + 1;
           total = raised e (i .total);
-          book = wordsAfter (i .book) (i .line) (comingOf w);
+          book = wordsAfter (i .book) (i .line) (cameReply w);
           fit = fit;
           few = omega (arith, h);
-          rest = turn-on (now s) (i .at) (i .line) (i .total) (i .book) l (comingOf w) (comingOf k) el ew ek un er ∙ i .rest;
+          rest = turn-on (now s) (i .at) (i .line) (i .total) (i .book) l (cameReply w) (cameReply k) el ew ek un er ∙ i .rest;
         }
 
-    nearer : (i : At-turn) (l : Line) (w k : Came) (e : Record) (el : Line-at i l) (ew : Asked i l w) (ek : Took i w k) (er : e ≡ recordOf (comingOf k)) (fit : Is T.the-row (raised e (i .total)) (T′.lowered (raised e (i .total)) ∷ [])) (un : isOver (comingOf k) ≡ false)
+    nearer : (i : At-turn) (l : Line) (w k : Came) (e : Record) (el : Line-at i l) (ew : Asked i l w) (ek : Took i w k) (er : e ≡ recordOf (cameReply k)) (fit : Is T.the-row (raised e (i .total)) (T′.lowered (raised e (i .total)) ∷ [])) (un : isOver (cameReply k) ≡ false)
         → Nearer (onward i l w k e el ew ek er fit un) i
-    nearer i l w k e el ew ek er fit un = let h : i .line ≤ 4096 = turn-few (now s) (i .at) (i .line) (i .total) (i .book) l (comingOf w) (comingOf k) el ew ek un in omega (arith, h)
+    nearer i l w k e el ew ek er fit un = let h : i .line ≤ 4096 = turn-few (now s) (i .at) (i .line) (i .total) (i .book) l (cameReply w) (cameReply k) el ew ek un in omega (arith, h)
 
     module _ (l₀ l₁ l₂ l₃ l₄ l₅ l₆ l₇ l₈ l₉ l₁₀ l₁₁ l₁₂ l₁₃ l₁₄ l₁₅ l₁₆ : ℕ) where
       -- a turn's postcondition: it ends nearer, or the function has returned
@@ -442,13 +442,13 @@ module _ {M : Type 1} (𝓤 : URA M) (H : Heap 𝓤) (A : Atoms 𝓤) (W : Given
       Turned i = afterTurn 𝓤 H (Below 𝓤 H A Nearer (At l₀ l₁ l₂ l₃ l₄ l₅ l₆ l₇ l₈ l₉ l₁₀ l₁₁ l₁₂ l₁₃ l₁₄ l₁₅ l₁₆) i) (afterBlock 𝓤 H (afterSeq 𝓤 H (Wp 𝓤 H (𝓣 .C) (𝓣 .Λ) (En l₀ l₁ l₂ l₃ l₄ l₅ l₆ l₇ l₈ l₉ l₁₀ l₁₁ l₁₂ l₁₃ l₁₄ l₁₅ l₁₆) return (atReturn 𝓤 H (En l₀ l₁ l₂ l₃ l₄ l₅ l₆ l₇ l₈ l₉ l₁₀ l₁₁ l₁₂ l₁₃ l₁₄ l₁₅ l₁₆) Post)) (atReturn 𝓤 H (En l₀ l₁ l₂ l₃ l₄ l₅ l₆ l₇ l₈ l₉ l₁₀ l₁₁ l₁₂ l₁₃ l₁₄ l₁₅ l₁₆) Post)))
 
       -- what the line came to is known: the pass is over, or the totals are lent to `raise` and it goes on
-      tail : (i : At-turn) (l : Line) (w k : Came) → l ≡ lineAt (now s) (i .at) → comingOf w ≡ comesTo (i .line) l → comingOf k ≡ taken (i .book) (i .line) (comingOf w) → Is K.the-row k (kv k ∷ []) → Sq W (Frame l₀ l₁ l₂ l₃ l₄ l₅ l₆ l₇ l₈ l₉ l₁₀ l₁₁ l₁₂ l₁₃ l₁₄ l₁₅ l₁₆ (‵ (froom K′.mir l₇ 0)) (‵ (fat fullShare K′.mir l₈ 0 (kv k))) (placeAfter l (i .at)) (i .line) (i .total) (wordsAfter (i .book) (i .line) (comingOf w))) (runs (𝓣 .C) (𝓣 .Λ) (En l₀ l₁ l₂ l₃ l₄ l₅ l₆ l₇ l₈ l₉ l₁₀ l₁₁ l₁₂ l₁₃ l₁₄ l₁₅ l₁₆) (peel 5 pieces.turn-1) (anyQ (Turned i)))
+      tail : (i : At-turn) (l : Line) (w k : Came) → l ≡ lineAt (now s) (i .at) → cameReply w ≡ comesTo (i .line) l → cameReply k ≡ afterTake (i .book) (i .line) (cameReply w) → Is K.the-row k (kv k ∷ []) → Sq W (Frame l₀ l₁ l₂ l₃ l₄ l₅ l₆ l₇ l₈ l₉ l₁₀ l₁₁ l₁₂ l₁₃ l₁₄ l₁₅ l₁₆ (‵ (froom K′.mir l₇ 0)) (‵ (fat fullShare K′.mir l₈ 0 (kv k))) (placeAfter l (i .at)) (i .line) (i .total) (wordsAfter (i .book) (i .line) (cameReply w))) (runs (𝓣 .C) (𝓣 .Λ) (En l₀ l₁ l₂ l₃ l₄ l₅ l₆ l₇ l₈ l₉ l₁₀ l₁₁ l₁₂ l₁₃ l₁₄ l₁₅ l₁₆) (peel 5 pieces.turn-1) (anyQ (Turned i)))
       unfolding afterTurn
       tail i l w k el ew ek ik =
           use0 W (raw (Finished 𝓤 H A at-mem run .pre (to-finished k))) (goes-finished k ik) $
           calls-at ! fm (Finished 𝓤 H A at-mem run) known-finished (to-finished k) (and-then ! (load ! (from ! (stop !)) (look ! 17 refl)) (no-more !)) (λ u₅.
           use1 W (later (some (λ (r : Bool). (‵ ftrue ⊛ ‵ (Boolean .own r (u₅ ∷ []))) ⊛ raw (ensured 𝓤 H A finished.ended (finished.clauses 𝓤 H A at-mem run) tt (k, tt) tt r)))) (id⊢ 𝓤 _) $ await ! tt $ pick ! (λ z.
-          split ! $ move ! (1 ∷ []) $ use1 W (raw (fact 𝓤 (z ≡ isOver (comingOf k)))) (told-finished 𝓤 H A at-mem run k z) $ heard ! (z ≡ isOver (comingOf k)) (λ ez. split ! $ drop ! $
+          split ! $ move ! (1 ∷ []) $ use1 W (raw (fact 𝓤 (z ≡ isOver (cameReply k)))) (told-finished 𝓤 H A at-mem run k z) $ heard ! (z ≡ isOver (cameReply k)) (λ ez. split ! $ drop ! $
           peeks ! Boolean (Is Boolean) (shows 𝓤 H A Boolean) z (u₅ ∷ []) (λ iz. drop ! $
           land ! (from ! (stop !)) (init ! 8 refl (bool-lawful 𝓤 H A W .typed z _ iz .0)) $ rewrite ! 8 (λ (y : Val). ‵ (fat fullShare tyBool l₁₂ 0 y)) (ap only iz) refl $
           first ! $ branches ! (load ! (from ! (stop !)) (look ! 8 refl))
@@ -457,19 +457,19 @@ module _ {M : Type 1} (𝓤 : URA M) (H : Heap 𝓤) (A : Atoms 𝓤) (W : Given
           use0 W (raw (RanTo 𝓤 H A at-mem run .pre (to-ran k (i .total)))) (goes-ran k (i .total) ik (i .fit)) $
           calls-at ! fm (RanTo 𝓤 H A at-mem run) known-ran-to (to-ran k (i .total)) (and-then ! (load ! (from ! (stop !)) (look ! 17 refl)) (and-then ! (load ! (from ! (stop !)) (look ! 7 refl)) (no-more !))) (λ u₆.
           use1 W (later (some (λ (r : Ran). (‵ ftrue ⊛ ‵ (E.the-row .own r (u₆ ∷ []))) ⊛ raw (ensured 𝓤 H A ran-to.ended (ran-to.clauses 𝓤 H A at-mem run) tt (k, (i .total, tt)) tt r)))) (id⊢ 𝓤 _) $ await ! tt $ pick ! (λ e.
-          split ! $ move ! (1 ∷ []) $ use1 W (raw (fact 𝓤 ((ws : List ℕ) → ranTo e ws ≡ endsIn (comingOf k) (i .total) ws))) (told-ran 𝓤 H A at-mem run k (i .total) e) $ heard ! ((ws : List ℕ) → ranTo e ws ≡ endsIn (comingOf k) (i .total) ws) (λ ee. split ! $ drop ! $
+          split ! $ move ! (1 ∷ []) $ use1 W (raw (fact 𝓤 ((ws : List ℕ) → ranTo e ws ≡ endsIn (cameReply k) (i .total) ws))) (told-ran 𝓤 H A at-mem run k (i .total) e) $ heard ! ((ws : List ℕ) → ranTo e ws ≡ endsIn (cameReply k) (i .total) ws) (λ ee. split ! $ drop ! $
           peeks ! E.the-row (Is E.the-row) (shows 𝓤 H A E.the-row) e (u₆ ∷ []) (λ ie.
           land ! (from ! (stop !)) (init ! 33 refl (EL.lawful E.the-type E′.the-laws 𝓤 H A W tt .typed e _ ie .0)) $
           returns-within ! Post refl (look ! 33 refl) $ forget ! 7 refl $ forget ! 9 refl $ forget ! 17 refl $ forget ! 23 refl $ forget ! 25 refl $ forget ! 27 refl $ forget ! 29 refl $ forget ! 31 refl $ forget ! 33 refl $
           move ! (33 ∷ 34 ∷ []) $ free1 ! $ move ! (31 ∷ 32 ∷ []) $ free1 ! $ move ! (29 ∷ 30 ∷ []) $ free1 ! $ move ! (27 ∷ 28 ∷ []) $ free1 ! $ move ! (25 ∷ 26 ∷ []) $ free1 ! $ move ! (23 ∷ 24 ∷ []) $ free1 ! $ move ! (21 ∷ 22 ∷ []) $ free1 ! $ move ! (19 ∷ 20 ∷ []) $ free1 ! $ move ! (17 ∷ 18 ∷ []) $ free1 ! $ move ! (15 ∷ 16 ∷ []) $ free1 ! $ move ! (13 ∷ 14 ∷ []) $ free1 ! $ move ! (11 ∷ 12 ∷ []) $ free1 ! $ move ! (9 ∷ 10 ∷ []) $ free1 ! $ move ! (7 ∷ 8 ∷ []) $ free1 ! $ move ! (5 ∷ 6 ∷ []) $ free1 ! $ move ! (3 ∷ 4 ∷ []) $ free1 ! $ move ! (1 ∷ 2 ∷ []) $ free1 ! $ free0 ! $
-          keep ! (0 ∷ 2 ∷ 3 ∷ 4 ∷ 5 ∷ []) $ by ! (exits e u₆ (wordsAfter (i .book) (i .line) (comingOf w)) (ended-here i l w k el ew ek (sym ez ∙ is-true z over-now) e ee)))))))
+          keep ! (0 ∷ 2 ∷ 3 ∷ 4 ∷ 5 ∷ []) $ by ! (exits e u₆ (wordsAfter (i .book) (i .line) (cameReply w)) (ended-here i l w k el ew ek (sym ez ∙ is-true z over-now) e ee)))))))
           (λ on. skips ! $ exec ! (𝓣 .C) (𝓣 .Λ) (En l₀ l₁ l₂ l₃ l₄ l₅ l₆ l₇ l₈ l₉ l₁₀ l₁₁ l₁₂ l₁₃ l₁₄ l₁₅ l₁₆) (peel 7 pieces.turn-1) (anyQ (Turned i)) $
           assigns ! (addr ! (from ! (stop !))) (from ! (stop !)) (init ! 2 refl (tt, tt)) $
           -- `record_of`
           use0 W (raw (RecordOf 𝓤 H A at-mem run .pre (to-record k))) (goes-record k ik) $
           calls-at ! fm (RecordOf 𝓤 H A at-mem run) known-record-of (to-record k) (and-then ! (load ! (from ! (stop !)) (look ! 17 refl)) (no-more !)) (λ u₇.
           use1 W (later (some (λ (r : Record). (‵ ftrue ⊛ ‵ (C.the-row .own r (u₇ ∷ []))) ⊛ raw (ensured 𝓤 H A record-of.ended (record-of.clauses 𝓤 H A at-mem run) tt (k, tt) tt r)))) (id⊢ 𝓤 _) $ await ! tt $ pick ! (λ e.
-          split ! $ move ! (1 ∷ []) $ use1 W (raw (fact 𝓤 (e ≡ recordOf (comingOf k)))) (told-record 𝓤 H A at-mem run k e) $ heard ! (e ≡ recordOf (comingOf k)) (λ er. split ! $ drop ! $
+          split ! $ move ! (1 ∷ []) $ use1 W (raw (fact 𝓤 (e ≡ recordOf (cameReply k)))) (told-record 𝓤 H A at-mem run k e) $ heard ! (e ≡ recordOf (cameReply k)) (λ er. split ! $ drop ! $
           peeks ! C.the-row (Is C.the-row) (shows 𝓤 H A C.the-row) e (u₇ ∷ []) (λ ie₁. drop ! $
           land ! (from ! (stop !)) (init ! 0 refl (EL.lawful C.the-type C′.the-laws 𝓤 H A W tt .typed e _ ie₁ .0)) $ rewrite ! 0 (λ (y : Val). ‵ (fat fullShare C′.mir l₁₆ 0 y)) (ap only (EL.tells C.the-type C′.the-laws e _ ie₁)) refl $
           -- `raise`: the totals are lent for a lifetime of the call
@@ -494,7 +494,7 @@ module _ {M : Type 1} (𝓤 : URA M) (H : Heap 𝓤) (A : Atoms 𝓤) (W : Given
           again ! Nearer (At l₀ l₁ l₂ l₃ l₄ l₅ l₆ l₇ l₈ l₉ l₁₀ l₁₁ l₁₂ l₁₃ l₁₄ l₁₅ l₁₆) i (onward i l w k e el ew ek er (subst (λ (vs : List Val). Is T.the-row (raised e (i .total)) vs) (LL.tells T.the-type T′.the-laws (raised e (i .total)) _ it) it) (sym ez ∙ is-false z on)) (nearer i l w k e el ew ek er (subst (λ (vs : List Val). Is T.the-row (raised e (i .total)) vs) (LL.tells T.the-type T′.the-laws (raised e (i .total)) _ it) it) (sym ez ∙ is-false z on))))))))))))))))))))
 
       -- the line is known: it is taken into the ledger
-      takes : (i : At-turn) (l : Line) (w : Came) → l ≡ lineAt (now s) (i .at) → comingOf w ≡ comesTo (i .line) l → Is K.the-row w (kv w ∷ [])
+      takes : (i : At-turn) (l : Line) (w : Came) → l ≡ lineAt (now s) (i .at) → cameReply w ≡ comesTo (i .line) l → Is K.the-row w (kv w ∷ [])
           → Sq W (Frame l₀ l₁ l₂ l₃ l₄ l₅ l₆ l₇ l₈ l₉ l₁₀ l₁₁ l₁₂ l₁₃ l₁₄ l₁₅ l₁₆ (‵ (fat fullShare K′.mir l₇ 0 (kv w))) (‵ (froom K′.mir l₈ 0)) (placeAfter l (i .at)) (i .line) (i .total) (i .book)) (runs (𝓣 .C) (𝓣 .Λ) (En l₀ l₁ l₂ l₃ l₄ l₅ l₆ l₇ l₈ l₉ l₁₀ l₁₁ l₁₂ l₁₃ l₁₄ l₁₅ l₁₆) (peel 3 pieces.turn-1) (anyQ (Turned i)))
       unfolding afterTurn
       takes i l w el ew iw =
@@ -506,8 +506,8 @@ module _ {M : Type 1} (𝓤 : URA M) (H : Heap 𝓤) (A : Atoms 𝓤) (W : Given
           move ! (0 ∷ 2 ∷ []) $ group ! 2 $ use1 W (raw (Take 𝓤 H A at-mem run .pre (to-take ν₀ δ₀ (i .book) (i .line) w))) (goes-take ν₀ δ₀ (i .book) (i .line) w (small i) iw) $
           calls-at ! fm (Take 𝓤 H A at-mem run) known-take-line (to-take ν₀ δ₀ (i .book) (i .line) w) (and-then ! (load ! (from ! (stop !)) (look ! 14 refl)) (and-then ! (load ! (from ! (stop !)) (look ! 26 refl)) (and-then ! (load ! (from ! (stop !)) (look ! 22 refl)) (no-more !)))) (λ u₇.
           use1 W (later (some (λ (r : Came). ((‵ (flft (ν₀ ∷ []) fullShare) ⊛ ‵ ftrue) ⊛ ‵ (K.the-row .own r (u₇ ∷ []))) ⊛ raw (ensured 𝓤 H A take-line.ended (take-line.clauses 𝓤 H A at-mem run) (ν₀ ∷ [], tt) (word₀ δ₀ (i .book), (i .line, (w, tt))) tt r)))) (id⊢ 𝓤 _) $ await ! tt $ pick ! (λ k.
-          split ! $ move ! (1 ∷ []) $ use1 W (some (λ (ws : List ℕ × (Unit {0} × (Unit {0} × Unit {0}))). ‵ (lasts take-line.ended (ν₀ ∷ [], tt) (word₀ δ₀ (i .book), (i .line, (w, tt))) ws) ⊛ raw (fact 𝓤 (comingOf k ≡ taken (i .book) (i .line) (comingOf w))) ⊛ raw (fact 𝓤 (ws .0 ≡ wordsAfter (i .book) (i .line) (comingOf w))))) (id⊢ 𝓤 _) $ pick ! (λ ws.
-          split ! $ move ! (1 ∷ []) $ split ! $ heard ! (comingOf k ≡ taken (i .book) (i .line) (comingOf w)) (λ ef₀. heard ! (ws .0 ≡ wordsAfter (i .book) (i .line) (comingOf w)) (λ ef₁.
+          split ! $ move ! (1 ∷ []) $ use1 W (some (λ (ws : List ℕ × (Unit {0} × (Unit {0} × Unit {0}))). ‵ (lasts take-line.ended (ν₀ ∷ [], tt) (word₀ δ₀ (i .book), (i .line, (w, tt))) ws) ⊛ raw (fact 𝓤 (cameReply k ≡ afterTake (i .book) (i .line) (cameReply w))) ⊛ raw (fact 𝓤 (ws .0 ≡ wordsAfter (i .book) (i .line) (cameReply w))))) (id⊢ 𝓤 _) $ pick ! (λ ws.
+          split ! $ move ! (1 ∷ []) $ split ! $ heard ! (cameReply k ≡ afterTake (i .book) (i .line) (cameReply w)) (λ ef₀. heard ! (ws .0 ≡ wordsAfter (i .book) (i .line) (cameReply w)) (λ ef₁.
           fsplit ! $ move ! (1 ∷ []) $ drop ! $ move ! (1 ∷ []) $ split ! $ move ! (1 ∷ []) $
           peeks ! K.the-row (Is K.the-row) (shows 𝓤 H A K.the-row) k (u₇ ∷ []) (λ ik₁. drop ! $
           land ! (from ! (stop !)) (init ! 21 refl (EL.lawful K.the-type K′.the-laws 𝓤 H A W tt .typed k _ ik₁ .0)) $ rewrite ! 21 (λ (y : Val). ‵ (fat fullShare K′.mir l₈ 0 y)) (ap only (EL.tells K.the-type K′.the-laws k _ ik₁)) refl $
@@ -549,7 +549,7 @@ module _ {M : Type 1} (𝓤 : URA M) (H : Heap 𝓤) (A : Atoms 𝓤) (W : Given
           use0 W (raw (What 𝓤 H A at-mem run .pre (to-what (i .line) l))) (goes-what (i .line) l (small i) (subst (λ (vs : List Val). Is L.the-row l vs) (EL.tells L.the-type L′.the-laws l _ il₁) il₁)) $
           calls-at ! fm (What 𝓤 H A at-mem run) known-comes-to (to-what (i .line) l) (and-then ! (load ! (from ! (stop !)) (look ! 25 refl)) (and-then ! (load ! (from ! (stop !)) (look ! 23 refl)) (no-more !))) (λ u₃.
           use1 W (later (some (λ (r : Came). (‵ ftrue ⊛ ‵ (K.the-row .own r (u₃ ∷ []))) ⊛ raw (ensured 𝓤 H A comes-to.ended (comes-to.clauses 𝓤 H A at-mem run) tt (i .line, (l, tt)) tt r)))) (id⊢ 𝓤 _) $ await ! tt $ pick ! (λ w.
-          split ! $ move ! (1 ∷ []) $ use1 W (raw (fact 𝓤 (comingOf w ≡ comesTo (i .line) l))) (told-what 𝓤 H A at-mem run (i .line) l w) $ heard ! (comingOf w ≡ comesTo (i .line) l) (λ ew. split ! $ drop ! $
+          split ! $ move ! (1 ∷ []) $ use1 W (raw (fact 𝓤 (cameReply w ≡ comesTo (i .line) l))) (told-what 𝓤 H A at-mem run (i .line) l w) $ heard ! (cameReply w ≡ comesTo (i .line) l) (λ ew. split ! $ drop ! $
           peeks ! K.the-row (Is K.the-row) (shows 𝓤 H A K.the-row) w (u₃ ∷ []) (λ iw₁. drop ! $
           land ! (from ! (stop !)) (init ! 20 refl (EL.lawful K.the-type K′.the-laws 𝓤 H A W tt .typed w _ iw₁ .0)) $ rewrite ! 20 (λ (y : Val). ‵ (fat fullShare K′.mir l₇ 0 y)) (ap only (EL.tells K.the-type K′.the-laws w _ iw₁)) refl $
           forget ! 14 refl $ forget ! 22 refl $

@@ -1,6 +1,6 @@
 -- `take_line` meets its contract: a record is taken into the ledger, which may refuse it, and what is no record stays.
 use mathlib.Core.Path.{refl}
-use Rattle.verdict.specs.Pass.{taken, wordsAfter}
+use Rattle.verdict.specs.Pass.{afterTake, wordsAfter}
 use Rattle.verdict.proofs.Comes.{line-refused, line-taken, line-same}
 use borrow.Author.Needs.{needs}
 use Rattle.verdict.proofs.take_line.Statement.{statement}
@@ -31,11 +31,11 @@ returns-2 : tie.Need-returns-2
 returns-2 c = line-taken _ _ _ _ _ (c .before .before .before .before .before .c .given .1) (c .before .before .take .ensures) (c .enum-told .given .1)
 
 returns-3 : tie.Need-returns-3
-unfolding taken wordsAfter
+unfolding afterTake wordsAfter
 returns-3 c = line-same _ _ (c .enum-told2 .given .1) refl refl
 
 returns-4 : tie.Need-returns-4
-unfolding taken wordsAfter
+unfolding afterTake wordsAfter
 returns-4 c = line-same _ _ (c .before .c2 .given .1) refl refl
 
 pub take-line-spec : {M : Type 1} → statement M
