@@ -22,7 +22,7 @@ use Rattle.records.specs.declared.Seen.{Seen}
 use Rattle.records.specs.declared.Judged.{Judged}
 use Rattle.book.specs.Layout.{wordCount}
 use Rattle.book.specs.Book.{Fits, ledgerOf, rowsIn, seensIn, judgedIn, rowCount, readCount, verdictCount, rowLoaded, rowStored, rowAdded, seenAdded, judgedAdded}
-use Rattle.book.proofs.Laws.{rows-length, seens-length, stored-length, stored-row-count, stored-read-count, stored-ledger, row-added-length, row-added-seens, row-added-ledger, seen-added-length, seen-added-count, seen-added-ledger, judged-added-length, judged-added-seens, judged-added-ledger, fits-loaded}
+use Rattle.book.proofs.Laws.{rows-length, seens-length, stored-length, stored-read-count, stored-ledger, row-added-length, row-added-seens, row-added-ledger, seen-added-length, seen-added-count, seen-added-ledger, judged-added-length, judged-added-seens, judged-added-ledger, fits-loaded}
 use Rattle.rows.specs.Table.{placeOf}
 use Rattle.rows.proofs.Walk.{row-of}
 use Rattle.rows.proofs.Stored.{stored-become}

@@ -1,5 +1,5 @@
 -- A key's bit stands in one half of the word: the low one where the key is below 32, else the high one.
-use Prim.Native.Nat.{ℕ, zero, suc, _+_, _*_, _-_, _/_, _%_, _^_, _≤_, _<_}
+use Prim.Native.Nat.{ℕ, zero, suc, _+_, _-_, _/_, _%_, _^_, _≤_, _<_}
 use native.Mathlib.Omega.{arith}
 use mathlib.Core.Path.{_≡_, refl, sym, _∙_, ap}
 use mathlib.Core.Bool.{Bool, true, false, cond, _&&_}
@@ -7,7 +7,7 @@ use mathlib.Core.List.{List, [], _∷_}
 use lib.Dec.{eqb, leb, ltb}
 use lib.ListN.{getD}
 use lib.Pow.{field, mod-mod-pow, shr-shr}
-use borrow.Author.Tests.{ltb-true, ltb-false, lt-ltb, le-ltb}
+use borrow.Author.Tests.{ltb-true, ltb-false}
 use Rattle.lists.specs.Lists.{count, bit}
 use Rattle.records.specs.Ledger.{has, madeBetween, meets, overtakes, rowsBetween}
 use Rattle.records.specs.declared.Row.{Row}

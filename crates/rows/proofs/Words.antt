@@ -6,7 +6,7 @@ use mathlib.Core.Path.{_≡_, refl}
 use mathlib.Core.Bool.{Bool, true, false, cond, _&&_}
 use lib.Dec.{eqb, leb, ltb}
 use lib.Pow.{pow-mono}
-use borrow.Author.Tests.{lt-ltb, le-ltb, le-leb, lt-leb}
+use borrow.Author.Tests.{ltb-true, lt-ltb, le-ltb, le-leb, lt-leb}
 use Rattle.records.specs.Ledger.{has, nowhere}
 use Rattle.lists.specs.Lists.{bit}
 
@@ -75,20 +75,13 @@ module _ (word x e : ℕ) where
   pub line-none : has word x ≡ false → nowhere ≡ cond (has word x && (ltb 0 e && ltb e nowhere)) e nowhere
   line-none h = rw h
 
-  pub line-open : e ≡ 0 → nowhere ≡ cond (has word x && (ltb 0 e && ltb e nowhere)) e nowhere
-  line-open h = rw h (go (has word x))
+  pub line-nowhere : (0 < e → nowhere ≤ e) → nowhere ≡ cond (has word x && (ltb 0 e && ltb e nowhere)) e nowhere
+  line-nowhere h = go (has word x) (ltb 0 e) refl
     where
-      go : (b : Bool) → nowhere ≡ cond (b && false) 0 nowhere
-      go true = refl
-      go false = refl
-
-  pub line-past : nowhere ≤ e → nowhere ≡ cond (has word x && (ltb 0 e && ltb e nowhere)) e nowhere
-  line-past h = rw (le-ltb e nowhere h) (go (has word x) (ltb 0 e))
-    where
-      go : (a b : Bool) → nowhere ≡ cond (a && (b && false)) e nowhere
-      go true true = refl
-      go true false = refl
-      go false b = refl
+      go : (a b : Bool) → ltb 0 e ≡ b → nowhere ≡ cond (a && (b && ltb e nowhere)) e nowhere
+      go false b k = refl
+      go true false k = refl
+      go true true k = rw (le-ltb e nowhere (h (ltb-true 0 e k)))
 
   pub line-end : has word x ≡ true → (e ≡ 0 → ⊥) → e < nowhere → e ≡ cond (has word x && (ltb 0 e && ltb e nowhere)) e nowhere
   line-end h some k = rw (h, lt-ltb 0 e (omega arith), lt-ltb e nowhere k)

@@ -1,5 +1,5 @@
 -- The first rule broken by any read is the least of the reads' ranks, and only the latest line read matters as SV's y.
-use Prim.Native.Nat.{ℕ, zero, suc, _-_, _≤_, _<_, min, max}
+use Prim.Native.Nat.{ℕ, zero, suc, _≤_, _<_, min, max}
 use native.Mathlib.Omega.{arith}
 use mathlib.Core.Path.{_≡_, refl, sym, _∙_, ap}
 use mathlib.Core.Bool.{Bool, true, false, cond, _||_, _&&_, and-false, false≢true}

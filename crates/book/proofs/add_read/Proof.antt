@@ -3,10 +3,6 @@ use Rattle.book.proofs.Exits.{read-room, read-full}
 use borrow.Author.Needs.{needs}
 use Rattle.book.proofs.add_read.Statement.{statement}
 use Rattle.book.proofs.add_read.Tie as tie
-use Rattle.book.proofs.add_read.Reads as reads
-use Rattle.book.proofs.add_read.Lts as lts
-use Rattle.book.proofs.reads.Reads as reads-reads
-use Rattle.book.proofs.word_of.Reads as word-of-reads
 
 reads-requires : tie.Need-reads-requires
 reads-requires c κs = search needs

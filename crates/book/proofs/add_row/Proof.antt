@@ -3,11 +3,6 @@ use Rattle.book.proofs.Exits.{row-room, row-full}
 use borrow.Author.Needs.{needs}
 use Rattle.book.proofs.add_row.Statement.{statement}
 use Rattle.book.proofs.add_row.Tie as tie
-use Rattle.book.proofs.add_row.Reads as reads
-use Rattle.book.proofs.add_row.Lts as lts
-use Rattle.book.proofs.rows.Reads as rows-reads
-use Rattle.book.proofs.store_row.Reads as store-row-reads
-use Rattle.book.proofs.word_of.Reads as word-of-reads
 
 rows-requires : tie.Need-rows-requires
 rows-requires c κs = search needs

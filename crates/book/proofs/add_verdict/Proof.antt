@@ -3,11 +3,6 @@ use Rattle.book.proofs.Exits.{verdict-room, verdict-full}
 use borrow.Author.Needs.{needs}
 use Rattle.book.proofs.add_verdict.Statement.{statement}
 use Rattle.book.proofs.add_verdict.Tie as tie
-use Rattle.book.proofs.add_verdict.Reads as reads
-use Rattle.book.proofs.add_verdict.Lts as lts
-use Rattle.book.proofs.code_of.Reads as code-of-reads
-use Rattle.book.proofs.verdicts.Reads as verdicts-reads
-use Rattle.book.proofs.word_of.Reads as word-of-reads
 
 verdicts-requires : tie.Need-verdicts-requires
 verdicts-requires c κs = search needs

@@ -4,11 +4,6 @@ use Rattle.book.proofs.Exits.{load-none, load-bounds, load-past}
 use borrow.Author.Needs.{needs}
 use Rattle.book.proofs.load_row.Statement.{statement}
 use Rattle.book.proofs.load_row.Tie as tie
-use Rattle.book.proofs.load_row.Reads as reads
-use Rattle.book.proofs.load_row.Lts as lts
-use Rattle.book.proofs.bound_of.Reads as bound-of-reads
-use Rattle.book.proofs.keys_of.Reads as keys-of-reads
-use Rattle.book.proofs.no_row.Reads as no-row-reads
 
 no-row-requires : tie.Need-no-row-requires
 no-row-requires c κs = search needs

@@ -4,11 +4,6 @@ use Rattle.book.proofs.Exits.{store-at, store-past}
 use borrow.Author.Needs.{needs}
 use Rattle.book.proofs.store_row.Statement.{statement}
 use Rattle.book.proofs.store_row.Tie as tie
-use Rattle.book.proofs.store_row.Reads as reads
-use Rattle.book.proofs.store_row.Lts as lts
-use Rattle.book.proofs.high_of.Reads as high-of-reads
-use Rattle.book.proofs.low_of.Reads as low-of-reads
-use Rattle.book.proofs.word_of_bound.Reads as word-of-bound-reads
 
 add-memory : tie.Need-add-memory
 add-memory c = search needs

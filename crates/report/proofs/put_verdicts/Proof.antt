@@ -14,7 +14,7 @@ abbrev Inv-loop : tie.InvT-loop
 Inv-loop text₀ at memory n to₀ i₀ text to i = (i ≤ n) × ((to ≤ at + 24 * i) × Puts text₀ text at (verdictLines (reverse (judgedOf memory i))) to)
 
 abbrev μ-loop : tie.MeasureT-loop
-μ-loop text₀ at memory n to₀ i₀ text to i = n - i
+μ-loop text₀ at memory n to₀ i₀ text to i = 512 - i
 
 loop-holds : tie.Need-loop-holds Inv-loop μ-loop
 loop-holds c = (omega arith, (omega arith, verdicts-none _ _ _ (omega arith)))

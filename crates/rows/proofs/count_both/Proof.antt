@@ -1,17 +1,14 @@
 -- `count_both` meets its contract: a key past 63 has no version, and no line is between two that are not in order.
+use native.Mathlib.Omega.{arith}
 use denote.Ref.{now}
 use Rattle.book.specs.Book.{rowsIn}
 use Rattle.rows.proofs.Halves.{within-past, between-past, between-empty}
 use borrow.Author.Needs.{needs}
 use Rattle.rows.proofs.count_both.Statement.{statement}
 use Rattle.rows.proofs.count_both.Tie as tie
-use Rattle.rows.proofs.count_both.Reads as reads
-use Rattle.rows.proofs.count_both.Lts as lts
-use Rattle.rows.proofs.count_two.Reads as count-two-reads
-use Rattle.rows.proofs.count_within.Reads as count-within-reads
 
 returns : tie.Need-returns
-returns c = let a = c .before .args in (within-past (now (a .memory)) (a .key) (a .after) (a .until) (c .if1 .taken), between-past (now (a .memory)) (a .key) (a .from) (a .before) (c .if1 .taken))
+returns c = let a = c .before .args in (within-past (now (a .memory)) (a .key) (a .after) (a .until) (omega arith), between-past (now (a .memory)) (a .key) (a .from) (a .before) (omega arith))
 
 count-within-requires : tie.Need-count-within-requires
 count-within-requires c κs = search needs

@@ -1,6 +1,5 @@
 -- `half_of` meets its contract: a key below 32, or not.
 use borrow.Author.Tests.{lt-ltb, le-ltb}
-use mathlib.Core.Path.{sym}
 use Rattle.rows.specs.Table.{halfFrom}
 use Rattle.rows.proofs.half_of.Statement.{statement}
 use Rattle.rows.proofs.half_of.Tie as tie

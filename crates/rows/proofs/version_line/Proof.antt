@@ -1,6 +1,7 @@
 -- `version_line` meets its contract: an end that is no commit line is nowhere.
+use native.Mathlib.Omega.{arith}
 use mathlib.Core.Path.{sym, _∙_}
-use Rattle.rows.proofs.Words.{line-none, line-open, line-past, line-end}
+use Rattle.rows.proofs.Words.{line-none, line-nowhere, line-end}
 use borrow.Author.Needs.{needs}
 use Rattle.rows.proofs.version_line.Statement.{statement}
 use Rattle.rows.proofs.version_line.Tie as tie
@@ -9,10 +10,10 @@ has-requires : tie.Need-has-requires
 has-requires c κs = search needs
 
 returns : tie.Need-returns
-returns c = let a = c .before .before .before .args in line-open (a .word) (a .key) (a .end) (c .if2 .taken)
+returns c = let a = c .before .before .before .args in line-nowhere (a .word) (a .key) (a .end) (λ p. omega arith)
 
 returns-2 : tie.Need-returns-2
-returns-2 c = let a = c .before .before .before .before .args in line-past (a .word) (a .key) (a .end) (c .if3 .taken)
+returns-2 c = let a = c .before .before .before .before .args in line-nowhere (a .word) (a .key) (a .end) (λ p. omega arith)
 
 returns-3 : tie.Need-returns-3
 returns-3 c = let a = c .before .before .before .before .args in line-end (a .word) (a .key) (a .end) (sym (c .before .before .before .has .ensures) ∙ c .before .before .if1 .taken) (c .before .if2 .left) (c .if3 .left)
