@@ -12,7 +12,7 @@ use Rattle.records.specs.declared.Judged.{Judged}
 use Rattle.records.specs.declared.Row.{Row}
 use Rattle.records.specs.declared.Seen.{Seen}
 use Rattle.book.specs.Layout.{endsFrom, judgedCodesFrom, judgedNamesFrom, k1sFrom, k2sFrom, k3sFrom, highsFrom, lowsFrom, lastsFrom, namesFrom, seenBeforesFrom, seenKeysFrom, seenLinesFrom, startsFrom}
-use Rattle.book.specs.Book.{keysOf, rowAt, rowCount, readCount, verdictCount, rowLoaded, rowStored, rowAdded, seenAdded, judgedAdded}
+use Rattle.book.specs.Book.{keyWord, rowAt, rowCount, readCount, verdictCount, rowLoaded, rowStored, rowAdded, seenAdded, judgedAdded}
 
 module _ (ws : List ℕ) where
   -- the row of a number: 0, that of a place, one past the last place
@@ -25,7 +25,7 @@ module _ (ws : List ℕ) where
   load-at zero h k = absurd (omega arith)
   load-at (suc i) h k = let e : suc i - 1 ≡ i = omega arith in rw (e, lt-ltb i 512 (omega arith))
 
-  pub load-bounds : (n w a b c : ℕ) → 0 < n → n - 1 < 512 → w ≡ keysOf (getD ws (lowsFrom + (n - 1)) 0) (getD ws (highsFrom + (n - 1)) 0) → a ≡ getD ws (k1sFrom + (n - 1)) 0 % 65536 → b ≡ getD ws (k2sFrom + (n - 1)) 0 % 65536
+  pub load-bounds : (n w a b c : ℕ) → 0 < n → n - 1 < 512 → w ≡ keyWord (getD ws (lowsFrom + (n - 1)) 0) (getD ws (highsFrom + (n - 1)) 0) → a ≡ getD ws (k1sFrom + (n - 1)) 0 % 65536 → b ≡ getD ws (k2sFrom + (n - 1)) 0 % 65536
       → c ≡ getD ws (k3sFrom + (n - 1)) 0 % 65536
       → _≡_ {A = Row}
       (record {

@@ -12,7 +12,7 @@ use Rattle.records.specs.declared.Judged.{Judged}
 use Rattle.records.specs.declared.Row.{Row}
 use Rattle.records.specs.declared.Seen.{Seen}
 use Rattle.book.specs.Layout.{endsFrom, judgedCodesFrom, judgedNamesFrom, k1sFrom, k2sFrom, k3sFrom, highsFrom, lowsFrom, lastsFrom, namesFrom, seenBeforesFrom, seenKeysFrom, seenLinesFrom, startsFrom, wordCount}
-use Rattle.book.specs.Book.{keysOf, rowAt, rowsOf, seenAt, seensOf, judgedAt, judgedOf, Fits, rowWords, seenWords, judgedWords}
+use Rattle.book.specs.Book.{keyWord, rowAt, rowsOf, seenAt, seensOf, judgedAt, judgedOf, Fits, rowWords, seenWords, judgedWords}
 
 module _ (ws us : List ℕ) where
   -- the rows depend on the words from 3 on, the recorded reads on those from 4,611 on, the verdicts on those from 16,899 on
@@ -198,7 +198,7 @@ module _ (ws : List ℕ) (i : ℕ) (r : Row) where
     of-lasts : getD (rowWords ws i r) (lastsFrom + i) 0 ≡ r .last
     of-lasts = getD-set-same upto-k3s (lastsFrom + i) (r .last) 0 (omega (arith, length-k3s))
 
-    halves : r .keys < 18446744073709551616 → keysOf (r .keys % 4294967296) (r .keys / 4294967296) ≡ r .keys
+    halves : r .keys < 18446744073709551616 → keyWord (r .keys % 4294967296) (r .keys / 4294967296) ≡ r .keys
     halves h = omega arith
 
     pub row-words-same : Fits r → rowAt (rowWords ws i r) i ≡ r

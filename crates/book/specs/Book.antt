@@ -12,8 +12,8 @@ use Rattle.records.specs.declared.Seen.{Seen}
 use Rattle.book.specs.Layout.{endsFrom, judgedCodesFrom, judgedNamesFrom, k1sFrom, k2sFrom, k3sFrom, highsFrom, lastsFrom, lowsFrom, namesFrom, readsAt, rowsAt, seenBeforesFrom, seenKeysFrom, seenLinesFrom, startsFrom, verdictsAt}
 
 -- the word of the keys written, out of its halves
-abbrev pub keysOf : ℕ → ℕ → ℕ
-keysOf low high = low % 4294967296 + 4294967296 * (high % 4294967296)
+abbrev pub keyWord : ℕ → ℕ → ℕ
+keyWord low high = low % 4294967296 + 4294967296 * (high % 4294967296)
 
 abbrev pub rowAt : List ℕ → ℕ → Row
 rowAt ws i =
@@ -21,7 +21,7 @@ rowAt ws i =
       name = getD ws (namesFrom + i) 0;
       start = getD ws (startsFrom + i) 0;
       end = getD ws (endsFrom + i) 0;
-      keys = keysOf (getD ws (lowsFrom + i) 0) (getD ws (highsFrom + i) 0);
+      keys = keyWord (getD ws (lowsFrom + i) 0) (getD ws (highsFrom + i) 0);
       bounds = record { k1 = getD ws (k1sFrom + i) 0 % 65536; k2 = getD ws (k2sFrom + i) 0 % 65536; k3 = getD ws (k3sFrom + i) 0 % 65536 };
       last = getD ws (lastsFrom + i) 0;
     }

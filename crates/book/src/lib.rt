@@ -3,7 +3,7 @@ ghost use Prim.Native.Nat.{_≤_, _/_, _%_};
 ghost use mathlib.Core.Path.{_≡_};
 ghost use Rattle.records.specs.Ledger.{noRow};
 ghost use Rattle.records.specs.Order.{codeOf};
-ghost use Rattle.book.specs.Book.{keysOf, rowCount, readCount, verdictCount, rowLoaded, rowStored, rowAdded, seenAdded, judgedAdded};
+ghost use Rattle.book.specs.Book.{keyWord, rowCount, readCount, verdictCount, rowLoaded, rowStored, rowAdded, seenAdded, judgedAdded};
 use records::ABORTED;
 use records::Judged;
 use records::Row;
@@ -105,7 +105,7 @@ pub fn load_row(memory: &[u32; WORDS], number: usize) -> Row
 
 // The word of the keys out of its halves, and the halves of a word.
 pub fn keys_of(low: u32, high: u32) -> u64
-    ensures { λ r. ⌜ r ≡ keysOf low high ⌝ }
+    ensures { λ r. ⌜ r ≡ keyWord low high ⌝ }
 {
     low as u64 + 4294967296 * (high as u64)
 }

@@ -23,7 +23,7 @@ use Rattle.records.specs.declared.Judged.{Judged}
 use Rattle.book.specs.Layout.{wordCount}
 use Rattle.book.specs.Book.{Fits, ledgerOf, rowsIn, seensIn, judgedIn, rowCount, readCount, verdictCount, rowLoaded, rowStored, rowAdded, seenAdded, judgedAdded}
 use Rattle.book.proofs.Laws.{rows-length, seens-length, stored-length, stored-read-count, stored-ledger, row-added-length, row-added-seens, row-added-ledger, seen-added-length, seen-added-count, seen-added-ledger, judged-added-length, judged-added-seens, judged-added-ledger, fits-loaded}
-use Rattle.rows.specs.Table.{placeOf}
+use Rattle.rows.specs.Table.{rowNumber}
 use Rattle.rows.proofs.Walk.{row-of}
 use Rattle.rows.proofs.Stored.{stored-become}
 use Rattle.ledger.specs.Take.{tidy, replyTo, onReply, cameTo, seenPushed, judgedPushed, settled, booked, Bounded}
@@ -60,11 +60,11 @@ changed-fits line n (Commit t) r b f = record { keys = f .keys; k1 = f .k1; k2 =
 changed-fits line n (Abort t) r b f = record { keys = f .keys; k1 = f .k1; k2 = f .k2; k3 = f .k3 }
 
 -- a row stored at the number of a name, in a memory that stands for a ledger
-stored-after : (ms : List ℕ) → length ms ≡ wordCount → {l : Ledger} → ledgerOf ms ≡ l → (x : ℕ) (q : Row) → Fits q → 0 < placeOf (l .rows) x
-    → ledgerOf (rowStored ms (placeOf (l .rows) x - 1) q) ≡ record { rows = become (l .rows) x q; seens = l .seens; judged = l .judged }
+stored-after : (ms : List ℕ) → length ms ≡ wordCount → {l : Ledger} → ledgerOf ms ≡ l → (x : ℕ) (q : Row) → Fits q → 0 < rowNumber (l .rows) x
+    → ledgerOf (rowStored ms (rowNumber (l .rows) x - 1) q) ≡ record { rows = become (l .rows) x q; seens = l .seens; judged = l .judged }
 stored-after ms whole e =
     rw (← e)
-    (λ x q f h. let p : ℕ = placeOf (rowsIn ms) x in
+    (λ x q f h. let p : ℕ = rowNumber (rowsIn ms) x in
     stored-ledger ms (p - 1) q (become (rowsIn ms) x q) (stored-become ms whole x q f p h refl))
 
 -- a row that is open has a number
@@ -114,9 +114,9 @@ module _ (ws : List ℕ) (line : ℕ) where
       unfolding booked
       booked-case e = reply-case (lineStep line e (ledgerOf ws)) _ (go (starts e))
         where
-          go : (c : Bool) → P (cond c (rowAdded ws (freshRow line (nameOf e))) (settled ws line e (placeOf (rowsIn ws) (nameOf e) - 1) (rowOf (rowsIn ws) (nameOf e))))
+          go : (c : Bool) → P (cond c (rowAdded ws (freshRow line (nameOf e))) (settled ws line e (rowNumber (rowsIn ws) (nameOf e) - 1) (rowOf (rowsIn ws) (nameOf e))))
           go true = row (freshRow line (nameOf e))
-          go false = settled-case e (placeOf (rowsIn ws) (nameOf e) - 1) (rowOf (rowsIn ws) (nameOf e))
+          go false = settled-case e (rowNumber (rowsIn ws) (nameOf e) - 1) (rowOf (rowsIn ws) (nameOf e))
 
   -- the memory stays as long as it was
   pub booked-length : (e : Record) → length (booked ws line e) ≡ length ws
@@ -136,13 +136,13 @@ module _ (ws : List ℕ) (line : ℕ) (whole : length ws ≡ wordCount) where
       }
 
   module _ (reads : readCount ws < 4096) (verdicts : verdictCount ws < 512) (r : Row) (f : Fits r) where
-    read-ledger : (c : Bool) (t : ℕ) (s : Seen) (q : Row) → Fits q → 0 < placeOf (rowsIn ws) t
-        → ledgerOf (rowStored (seenPushed ws (cond c (s ∷ []) [])) (placeOf (rowsIn ws) t - 1) q) ≡ record { rows = become (rowsIn ws) t q; seens = cond c (s ∷ seensIn ws) (seensIn ws); judged = judgedIn ws }
+    read-ledger : (c : Bool) (t : ℕ) (s : Seen) (q : Row) → Fits q → 0 < rowNumber (rowsIn ws) t
+        → ledgerOf (rowStored (seenPushed ws (cond c (s ∷ []) [])) (rowNumber (rowsIn ws) t - 1) q) ≡ record { rows = become (rowsIn ws) t q; seens = cond c (s ∷ seensIn ws) (seensIn ws); judged = judgedIn ws }
     unfolding seenPushed
     read-ledger true t s q g h = stored-after (seenAdded ws s) (seen-added-length ws s ∙ whole) (seen-added-ledger ws s whole reads) t q g h
     read-ledger false t s q g h = stored-after ws whole refl t q g h
 
-    settled-ledger : (e : Record) → Bounded e → 0 < placeOf (rowsIn ws) (nameOf e) → ledgerOf (settled ws line e (placeOf (rowsIn ws) (nameOf e) - 1) r) ≡ onward e r
+    settled-ledger : (e : Record) → Bounded e → 0 < rowNumber (rowsIn ws) (nameOf e) → ledgerOf (settled ws line e (rowNumber (rowsIn ws) (nameOf e) - 1) r) ≡ onward e r
     unfolding settled seenPushed judgedPushed noted concluded
     settled-ledger (Start t) b h = stored-after ws whole refl t (changed line (readCount ws) (Start t) r) (changed-fits line (readCount ws) (Start t) r b f) h
     settled-ledger (Tune t k) b h = stored-after ws whole refl t (changed line (readCount ws) (Tune t k) r) (changed-fits line (readCount ws) (Tune t k) r b f) h
@@ -164,11 +164,11 @@ module _ (ws : List ℕ) (line : ℕ) (whole : length ws ≡ wordCount) where
   -- any other record; where its row is open there is room for a verdict
   moves : (e : Record) → readCount ws < 4096 → (isOpen (rowOf (rowsIn ws) (nameOf e)) ≡ true → verdictCount ws < 512) → Bounded e
       → cameTo (replyTo (moved line e (ledgerOf ws)))
-      (onReply (replyTo (moved line e (ledgerOf ws))) ws (settled ws line e (placeOf (rowsIn ws) (nameOf e) - 1) (rowOf (rowsIn ws) (nameOf e))))
+      (onReply (replyTo (moved line e (ledgerOf ws))) ws (settled ws line e (rowNumber (rowsIn ws) (nameOf e) - 1) (rowOf (rowsIn ws) (nameOf e))))
       ≡ moved line (tidy e) (ledgerOf ws)
   moves e reads verdicts b =
       let r : Row = rowOf (rowsIn ws) (nameOf e) in
-      let p : ℕ = placeOf (rowsIn ws) (nameOf e) in
+      let p : ℕ = rowNumber (rowsIn ws) (nameOf e) in
       let of : r ≡ rowLoaded ws p = row-of ws (nameOf e) in
       rw (tidy-name e, seens-length ws (readCount ws))
       (came-moved ws (settled ws line e (p - 1) r) _ (onward e r) (isOpen r) (λ o. settled-ledger reads (verdicts o) r (subst Fits (sym of) (fits-loaded ws p)) e b (numbered ws p (sym (ap isOpen of) ∙ o))))

@@ -15,7 +15,7 @@ use Rattle.records.specs.declared.Record.the-variants.{Start, Tune, Read, Write
 use Rattle.records.specs.declared.Row.{Row}
 use Rattle.records.specs.declared.Verdict.{Verdict}
 use Rattle.book.specs.Book.{ledgerOf, rowsIn, seensIn, rowCount, readCount, rowLoaded, rowStored, rowAdded, seenAdded, judgedAdded}
-use Rattle.rows.specs.Table.{placeOf}
+use Rattle.rows.specs.Table.{rowNumber}
 use Rattle.book.proofs.Laws.{rows-length}
 use Rattle.rows.proofs.Walk.{any-named, row-of}
 use Rattle.units.specs.declared.Bounds.{Bounds}
@@ -76,7 +76,7 @@ module _ (ws done : List ℕ) {o : Outcome} where
   goes-on h g = rw h (refl, g)
 
 -- a start: its number was used, there are 512, or it begins
-module _ (ws : List ℕ) (line name : ℕ) {number : ℕ} (f : number ≡ placeOf (rowsIn ws) name) where
+module _ (ws : List ℕ) (line name : ℕ) {number : ℕ} (f : number ≡ rowNumber (rowsIn ws) name) where
   pub begin-used : 0 < number → begun line name (ledgerOf ws) ≡ refused 15
   begin-used h = rw (any-named (rowsIn ws) name, ← f, lt-ltb 0 number h)
 
@@ -95,7 +95,7 @@ module _ (ws : List ℕ) (line : ℕ) (e : Record) {b : Bool} (f : b ≡ starts 
   unfolding lineStep booked
   take-starts g n h = rw (← f, g, ← n) h
 
-  module _ {name number : ℕ} {row : Row} (g : b ≡ false) (n : name ≡ nameOf e) (p : number ≡ placeOf (rowsIn ws) name) (w : row ≡ rowLoaded ws number) where
+  module _ {name number : ℕ} {row : Row} (g : b ≡ false) (n : name ≡ nameOf e) (p : number ≡ rowNumber (rowsIn ws) name) (w : row ≡ rowLoaded ws number) where
     row-is : rowOf (rowsIn ws) (nameOf e) ≡ row
     row-is = rw (w, p, n) (row-of ws (nameOf e))
 

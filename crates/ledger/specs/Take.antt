@@ -11,7 +11,7 @@ use Rattle.records.specs.declared.Row.{Row}
 use Rattle.records.specs.declared.Seen.{Seen}
 use Rattle.records.specs.declared.Judged.{Judged}
 use Rattle.book.specs.Book.{ledgerOf, rowsIn, seensIn, readCount, rowAdded, rowStored, seenAdded, judgedAdded}
-use Rattle.rows.specs.Table.{placeOf}
+use Rattle.rows.specs.Table.{rowNumber}
 use Rattle.ledger.specs.declared.Taken.{Taken}
 use Rattle.ledger.specs.declared.Taken.the-variants.{Refused, Went}
 
@@ -61,7 +61,7 @@ booked ws line e =
     onReply (replyTo (lineStep line e (ledgerOf ws))) ws
     (cond (starts e)
     (rowAdded ws (freshRow line (nameOf e)))
-    (settled ws line e (placeOf (rowsIn ws) (nameOf e) - 1) (rowOf (rowsIn ws) (nameOf e))))
+    (settled ws line e (rowNumber (rowsIn ws) (nameOf e) - 1) (rowOf (rowsIn ws) (nameOf e))))
 
 -- what the reply and the words after it come to in the judge's own terms
 abbrev pub cameTo : TakeReply → List ℕ → Outcome

@@ -5,7 +5,7 @@ ghost use mathlib.Core.Path.{_≡_};
 ghost use Rattle.records.specs.Parts.{nameOf, starts};
 ghost use Rattle.records.specs.Ledger.{freshRow, isRecorded, withEnd, changed, begun, lineStep};
 ghost use Rattle.book.specs.Book.{ledgerOf, rowsIn, rowAdded};
-ghost use Rattle.rows.specs.Table.{placeOf};
+ghost use Rattle.rows.specs.Table.{rowNumber};
 ghost use Rattle.ledger.specs.Take.{takenReply, replyTo, onReply, booked, settled};
 use book::WORDS;
 use book::add_read;
@@ -51,7 +51,7 @@ pub fn take(memory: &mut [u32; WORDS], line: u32, e: Record) -> Taken
 
 // A start: "a number used before" is refused, and so is the 513th.
 fn begin(memory: &mut [u32; WORDS], line: u32, name: u32, number: usize) -> Taken
-    requires { ⌜ number ≡ placeOf (rowsIn (now memory)) name ⌝ }
+    requires { ⌜ number ≡ rowNumber (rowsIn (now memory)) name ⌝ }
     ensures reply { λ r. ⌜ takenReply r ≡ replyTo (begun line name (ledgerOf (now (memory .entry)))) ⌝ }
     ensures memory { λ _. ⌜ now (memory .exit) ≡ onReply (replyTo (begun line name (ledgerOf (now (memory .entry))))) (now (memory .entry)) (rowAdded (now (memory .entry)) (freshRow line name)) ⌝ }
 {

@@ -12,7 +12,7 @@ use Rattle.lists.specs.Lists.{count, bit}
 use Rattle.records.specs.Ledger.{has, madeBetween, meets, overtakes, rowsBetween}
 use Rattle.records.specs.declared.Row.{Row}
 use Rattle.book.specs.Layout.{lowsFrom, highsFrom}
-use Rattle.book.specs.Book.{keysOf, rowAt, rowsOf, rowsIn, rowCount}
+use Rattle.book.specs.Book.{keyWord, rowAt, rowsOf, rowsIn, rowCount}
 use Rattle.rows.specs.Table.{halfFrom, madeWithin, rowsWithin}
 use Rattle.rows.proofs.Words.{has-past}
 
@@ -31,19 +31,19 @@ pub has-mod : (w v x : ℕ) → x < 32 → w % 4294967296 ≡ v % 4294967296 →
 has-mod w v x h e = ap (λ (n : ℕ). eqb n 1) (digit-mod w x h ∙ ap (λ (n : ℕ). n % 2 ^ (1 + x) / 2 ^ x) e ∙ sym (digit-mod v x h))
 
 module _ (low high : ℕ) where
-  has-low : (x : ℕ) → x < 32 → has (keysOf low high) x ≡ has low x
-  has-low x h = has-mod (keysOf low high) low x h (omega arith)
+  has-low : (x : ℕ) → x < 32 → has (keyWord low high) x ≡ has low x
+  has-low x h = has-mod (keyWord low high) low x h (omega arith)
 
-  above : keysOf low high / 4294967296 ≡ high % 4294967296
+  above : keyWord low high / 4294967296 ≡ high % 4294967296
   above = omega arith
 
-  has-high : (y : ℕ) → y < 32 → has (keysOf low high) (32 + y) ≡ has high y
+  has-high : (y : ℕ) → y < 32 → has (keyWord low high) (32 + y) ≡ has high y
   has-high y h =
-      ap (λ (n : ℕ). eqb (n % 2) 1) (sym (shr-shr (keysOf low high) 32 y) ∙ ap (λ (n : ℕ). n / 2 ^ y) above)
+      ap (λ (n : ℕ). eqb (n % 2) 1) (sym (shr-shr (keyWord low high) 32 y) ∙ ap (λ (n : ℕ). n / 2 ^ y) above)
       ∙ has-mod (high % 4294967296) high y h (omega arith)
 
-  has-none : (x : ℕ) → 64 ≤ x → has (keysOf low high) x ≡ false
-  has-none x h = has-past (keysOf low high) x (omega arith) h
+  has-none : (x : ℕ) → 64 ≤ x → has (keyWord low high) x ≡ false
+  has-none x h = has-past (keyWord low high) x (omega arith) h
 
 pub half-le : (half x : ℕ) → half ≡ halfFrom x → half ≤ highsFrom
 unfolding halfFrom

@@ -11,7 +11,7 @@ use Rattle.lists.proofs.Count.{count-none}
 use Rattle.records.specs.Ledger.{has, nowhere, resolved, rowOf, rowsBetween, madeBetween}
 use Rattle.records.specs.declared.Row.{Row}
 use Rattle.book.specs.Book.{rowsIn, rowLoaded}
-use Rattle.rows.specs.Table.{placeOf}
+use Rattle.rows.specs.Table.{rowNumber}
 use Rattle.rows.proofs.Walk.{row-of}
 
 -- nothing is committed before line 0
@@ -33,6 +33,6 @@ module _ (ws : List ℕ) (w x : ℕ) where
   resolve-row some e f = f ∙ rw (ne-eqb w 0 some, e)
 
   -- a row by its number
-  pub resolve-at : (w ≡ 0 → ⊥) → (n : ℕ) {q : Row} {v : ℕ} → n ≡ placeOf (rowsIn ws) w → q ≡ rowLoaded ws n
+  pub resolve-at : (w ≡ 0 → ⊥) → (n : ℕ) {q : Row} {v : ℕ} → n ≡ rowNumber (rowsIn ws) w → q ≡ rowLoaded ws n
       → v ≡ cond (has (q .keys) x && (ltb 0 (q .end) && ltb (q .end) nowhere)) (q .end) nowhere → v ≡ resolved (rowsIn ws) w x
   resolve-at some n e g f = resolve-row some (g ∙ ap (rowLoaded ws) e ∙ sym (row-of ws w)) f

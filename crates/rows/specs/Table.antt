@@ -10,9 +10,9 @@ use Rattle.records.specs.declared.Row.{Row}
 use Rattle.book.specs.Layout.{lowsFrom, highsFrom}
 
 -- the newest row of a name by its number, which is how many rows there are up to it; 0 where there is none
-unfoldable pub placeOf : List Row → ℕ → ℕ
-placeOf [] t = 0
-placeOf (r ∷ rs) t = cond (named t r) (suc (length rs)) (placeOf rs t)
+unfoldable pub rowNumber : List Row → ℕ → ℕ
+rowNumber [] t = 0
+rowNumber (r ∷ rs) t = cond (named t r) (suc (length rs)) (rowNumber rs t)
 
 -- a committed row that wrote x, and whose commit line is after one line and at or before another
 abbrev pub madeWithin : ℕ → ℕ → ℕ → Row → Bool

@@ -7,7 +7,7 @@ ghost use Rattle.lists.specs.Lists.{any};
 ghost use Rattle.lists.specs.Lists.{bit as one};
 ghost use Rattle.records.specs.Ledger.{has, meets, nowhere, overtakes, resolved, rowsBetween};
 ghost use Rattle.book.specs.Book.{rowsIn};
-ghost use Rattle.rows.specs.Table.{placeOf, rowsWithin, halfFrom};
+ghost use Rattle.rows.specs.Table.{rowNumber, rowsWithin, halfFrom};
 use book::ENDS;
 use book::HIGHS;
 use book::LOWS;
@@ -19,7 +19,7 @@ use records::Row;
 
 // The newest row of a name, by its number from 1; 0 where there is none.
 pub fn find(memory: &[u32; WORDS], name: u32) -> usize
-    ensures { λ r. ⌜ r ≡ placeOf (rowsIn (now (memory .entry))) name ⌝ }
+    ensures { λ r. ⌜ r ≡ rowNumber (rowsIn (now (memory .entry))) name ⌝ }
 {
     let mut i = book::rows(memory);
     while 0 < i {

@@ -11,7 +11,6 @@ use Rattle.lists.specs.Lists.{find}
 use Rattle.lists.proofs.Find.{search-over, search-hit, search-miss}
 use Rattle.units.specs.declared.rule.Rule.the-variants.{BV, FV}
 use Rattle.units.specs.declared.rule.Certified.the-variants.{Whole, Broken}
-use Rattle.transaction.specs.declared.Mark.{Mark}
 use Rattle.transaction.specs.declared.Transaction.{Transaction}
 use Rattle.transaction.specs.Transaction.{readsOf, noMark}
 use Rattle.model.specs.Log.{Entry}

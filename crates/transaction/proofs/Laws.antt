@@ -6,7 +6,6 @@ use borrow.Author.Tests.{lt-ltb, le-ltb}
 use Rattle.lists.proofs.Length.{front-at}
 use Rattle.transaction.specs.Transaction.{wroteAt, writesOf, pendingOf, noWrite}
 use Rattle.transaction.specs.declared.Transaction.{Transaction}
-use Rattle.transaction.specs.declared.Pending.{Pending}
 use Rattle.transaction.specs.declared.Pending.the-variants.{Value, Nothing}
 
 module _ (t : Transaction) where

@@ -11,9 +11,9 @@ use lib.ListN.{length, length-reverse}
 use Rattle.lists.specs.Lists.{any, count}
 use Rattle.records.specs.Parts.{isStart, starts}
 use Rattle.records.specs.declared.Record.{Record}
-use Rattle.records.specs.declared.Record.the-variants.{Start, Tune, Read, Write, Commit, Abort}
+use Rattle.records.specs.declared.Record.the-variants.{Start}
 use Rattle.records.specs.Written.{History}
-use Rattle.records.specs.Ledger.{Ledger, Outcome, went, blank, lineStep}
+use Rattle.records.specs.Ledger.{Outcome, went, blank, lineStep}
 use Rattle.records.specs.Ledger as meaning
 use Rattle.records.specs.Totals.{noTotals}
 use Rattle.records.specs.Mirror.{outcomeNumber}

@@ -3,13 +3,13 @@ use Prim.Native.Nat.{_≤_}
 use native.Mathlib.Omega.{arith}
 use mathlib.Core.Path.{_≡_}
 use Rattle.book.specs.Book.{rowsOf, rowsIn, rowCount}
-use Rattle.rows.specs.Table.{placeOf}
+use Rattle.rows.specs.Table.{rowNumber}
 use Rattle.rows.proofs.Walk.{place-over, place-hit, place-miss}
 use Rattle.rows.proofs.find.Statement.{statement}
 use Rattle.rows.proofs.find.Tie as tie
 
 abbrev Inv-loop : tie.InvT-loop
-Inv-loop memory name i₀ i = (i ≤ rowCount memory) × (placeOf (rowsOf memory i) name ≡ placeOf (rowsIn memory) name)
+Inv-loop memory name i₀ i = (i ≤ rowCount memory) × (rowNumber (rowsOf memory i) name ≡ rowNumber (rowsIn memory) name)
 
 abbrev μ-loop : tie.MeasureT-loop
 μ-loop memory name i₀ i = i

@@ -2,8 +2,6 @@ use borrow.Author.Tests.{eq-eqb, ne-eqb}
 use Rattle.units.specs.Bounds.{bounded}
 use Rattle.units.proofs.Bounds.new.Statement.{statement}
 use Rattle.units.proofs.Bounds.new.Tie as tie
-use Rattle.units.proofs.Bounds.new.Reads as reads
-use Rattle.units.proofs.Bounds.new.Lts as lts
 
 -- src/lib.rt:62:13
 returns : tie.Need-returns

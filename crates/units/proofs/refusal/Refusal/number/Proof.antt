@@ -3,8 +3,6 @@ use Rattle.units.specs.Refusal.{numberOf}
 use borrow.Author.Needs.{needs}
 use Rattle.units.proofs.refusal.Refusal.number.Statement.{statement}
 use Rattle.units.proofs.refusal.Refusal.number.Tie as tie
-use Rattle.units.proofs.refusal.Refusal.number.Reads as reads
-use Rattle.units.proofs.refusal.Refusal.number.Lts as lts
 
 -- src/refusal.rt:31:39
 enum-told : tie.Need-enum-told
