@@ -38,29 +38,22 @@ use units::Ordinal;
 use units::Rule;
 use units::Stamp;
 
-// Those that look at the master's versions.
+// The steps of the master.
 pub(crate) fn ask(step: Step, memory: &mut [u32; WORDS]) -> Reply {
     match step {
-        Step::Read(t, k) => of_read(READ, master::read(memory, Stamp(t), k)),
-        Step::Note(t, k, o) => of_read(NOTE, master::note(memory, Stamp(t), k, Ordinal(o))),
-        Step::Distance(t, i) => ask_distance(memory, t, i),
-        Step::Commit(t) => ask_commit(memory, t),
-        Step::Newest(k) => ask_newest(memory, k),
-        _ => ask_desk(step, memory),
-    }
-}
-
-// And those that look at none.
-fn ask_desk(step: Step, memory: &mut [u32; WORDS]) -> Reply {
-    match step {
-        Step::Start => ask_start(memory),
-        Step::Write(t, k, v) => of_done(WRITE, desk::write(memory, Stamp(t), k, v)),
-        Step::Tune(t, k1, k2, k3) => of_done(TUNE, desk::tune(memory, Stamp(t), k1, k2, k3)),
-        Step::Abort(t) => of_done(ABORT, desk::abort(memory, Stamp(t))),
         Step::Open(n) => {
             desk::open(memory, Stamp(n));
             with_number(OPEN, n as u64)
         }
+        Step::Start => ask_start(memory),
+        Step::Read(t, k) => of_read(READ, master::read(memory, Stamp(t), k)),
+        Step::Note(t, k, o) => of_read(NOTE, master::note(memory, Stamp(t), k, Ordinal(o))),
+        Step::Write(t, k, v) => of_done(WRITE, desk::write(memory, Stamp(t), k, v)),
+        Step::Tune(t, k1, k2, k3) => of_done(TUNE, desk::tune(memory, Stamp(t), k1, k2, k3)),
+        Step::Distance(t, i) => ask_distance(memory, t, i),
+        Step::Abort(t) => of_done(ABORT, desk::abort(memory, Stamp(t))),
+        Step::Commit(t) => ask_commit(memory, t),
+        Step::Newest(k) => ask_newest(memory, k),
         _ => alone(UNKNOWN),
     }
 }

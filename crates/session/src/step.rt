@@ -143,87 +143,74 @@ pub(crate) fn step_of(line: &[u8]) -> Step {
 fn numbered(word: u64, n: Numbers) -> Step {
     let count = n.count;
     match count {
-        0 => with_none(word),
-        1 => with_one(word, n.a),
-        2 => with_two(word, n.a, n.b),
+        0 => match word {
+            START => Step::Start,
+            COPY => Step::Copy,
+            COMPARE => Step::Compare,
+            _ => Step::Unknown,
+        },
+        1 => match word {
+            COMMIT => Step::Commit(n.a),
+            ABORT => Step::Abort(n.a),
+            NEWEST => Step::Newest(n.a),
+            LOOK => Step::Look(n.a),
+            OPEN => Step::Open(n.a),
+            _ => Step::Unknown,
+        },
+        2 => match word {
+            READ => Step::Read(n.a, n.b),
+            DISTANCE => Step::Distance(n.a, n.b),
+            MESSAGE => Step::Message(n.a, n.b),
+            _ => Step::Unknown,
+        },
         3 => {
             if word == NOTE {
                 return Step::Note(n.a, n.b, n.c);
             }
             Step::Unknown
         }
-        4 => with_four(word, n.a, n.b, n.c, n.d),
-        _ => Step::Unknown,
-    }
-}
-
-fn with_none(word: u64) -> Step {
-    match word {
-        START => Step::Start,
-        COPY => Step::Copy,
-        COMPARE => Step::Compare,
-        _ => Step::Unknown,
-    }
-}
-
-fn with_one(word: u64, a: u32) -> Step {
-    match word {
-        COMMIT => Step::Commit(a),
-        ABORT => Step::Abort(a),
-        NEWEST => Step::Newest(a),
-        LOOK => Step::Look(a),
-        OPEN => Step::Open(a),
-        _ => Step::Unknown,
-    }
-}
-
-fn with_two(word: u64, a: u32, b: u32) -> Step {
-    match word {
-        READ => Step::Read(a, b),
-        DISTANCE => Step::Distance(a, b),
-        MESSAGE => Step::Message(a, b),
-        _ => Step::Unknown,
-    }
-}
-
-fn with_four(word: u64, a: u32, b: u32, c: u32, d: u32) -> Step {
-    if word == TUNE {
-        if b < 65536 {
-            if c < 65536 {
-                if d < 65536 {
-                    return Step::Tune(a, b as u16, c as u16, d as u16);
+        4 => {
+            if word == TUNE {
+                if n.b < 65536 {
+                    if n.c < 65536 {
+                        if n.d < 65536 {
+                            return Step::Tune(n.a, n.b as u16, n.c as u16, n.d as u16);
+                        }
+                    }
                 }
             }
+            Step::Unknown
         }
+        _ => Step::Unknown,
     }
-    Step::Unknown
 }
 
 fn write_of(line: &[u8]) -> Step {
     let a = number(line, 5);
     let b = next(line, a);
-    match b {
-        Natural::Number(_, e) => value_of(line, value(a), value(b), e),
-        Natural::Bad => Step::Unknown,
+    let v = value_behind(line, b);
+    match v {
+        Signed::Number(n, e) => {
+            if has(line, e, b'\n') {
+                return Step::Write(value(a), value(b), n);
+            }
+            Step::Unknown
+        }
+        Signed::Bad => Step::Unknown,
     }
 }
 
-// The value, a signed number, behind the space at a place.
-fn value_of(line: &[u8], name: u32, key: u32, at: usize) -> Step {
-    if at < line.len() {
-        if line[at] == b' ' {
-            match decimal::signed_at(line, at + 1) {
-                Signed::Number(v, e) => {
-                    if e < line.len() {
-                        if line[e] == b'\n' {
-                            return Step::Write(name, key, v);
-                        }
-                    }
-                    return Step::Unknown;
+// The value, a signed number, behind a number and a space.
+fn value_behind(line: &[u8], n: Natural) -> Signed {
+    match n {
+        Natural::Number(_, e) => {
+            if e < line.len() {
+                if line[e] == b' ' {
+                    return decimal::signed_at(line, e + 1);
                 }
-                Signed::Bad => return Step::Unknown,
             }
+            Signed::Bad
         }
+        Natural::Bad => Signed::Bad,
     }
-    Step::Unknown
 }
