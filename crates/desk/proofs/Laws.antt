@@ -2,8 +2,8 @@
 use Prim.Native.Nat.{ℕ, _+_, _≤_, _<_}
 use native.Mathlib.Omega.{arith}
 use native.Mathlib.Numerals.{add-one}
-use mathlib.Core.Path.{_≡_, refl, sym, _∙_}
-use mathlib.Core.Bool.{Bool, true, false, not, _&&_, cond}
+use mathlib.Core.Path.{_≡_, refl, _∙_}
+use mathlib.Core.Bool.{Bool, true, false, cond}
 use mathlib.Core.List.{List}
 use borrow.Author.Tests.{le-leb, lt-leb, lt-ltb, le-ltb, eq-eqb, ne-eqb}
 use lib.Dec.{eqb}
@@ -17,25 +17,12 @@ use Rattle.units.specs.declared.Triple.{Triple}
 use Rattle.units.specs.declared.Triple.the-variants.{Taken, Refused}
 use Rattle.units.specs.declared.refusal.Refusal.{Refusal}
 use Rattle.transaction.specs.Transaction.{fresh, ended, tuned, written, wroteAt}
-use Rattle.model.specs.State.{goesBy, noTransaction, freePlace}
-use Rattle.memory.specs.Memory.{baseOf, loaded, stored, placesOf, stateOf}
+use Rattle.model.specs.State.{freePlace}
+use Rattle.memory.specs.Memory.{loaded, stored, placesOf, stateOf}
 use Rattle.model.specs.Call.{Call, Start, Read, Note, Write, Tune, Distance, Abort, Commit, Message, Newest, refused, started, done}
 use Rattle.model.specs.Step.{step, checksOf, finalOf, order}
 use Rattle.words.specs.After.{at, closed, change, after, cleared}
 use Rattle.memory.proofs.Laws.{places-at}
-
-module _ (ws : List ℕ) (i b : ℕ) (h : i < 32) (e : b ≡ baseOf i) where
-  pub goes-at : (n : ℕ) (r : Bool) → r ≡ (not (eqb (getD ws (b + 1) 0) 0) && eqb (getD ws b 0) n) → goesBy n (getD (placesOf ws) i noTransaction) ≡ r
-  unfolding loaded
-  goes-at n r q = rw (places-at ws i h) (sym (rw e at q))
-
-  pub free-at : (r : Bool) → r ≡ eqb (getD ws (b + 1) 0) 0 → not (getD (placesOf ws) i noTransaction .live) ≡ r
-  unfolding loaded
-  free-at r q = rw (places-at ws i h) (not-not (eqb (getD ws (baseOf i + 1) 0) 0) ∙ sym (rw e at q))
-    where
-      not-not : (t : Bool) → not (not t) ≡ t
-      not-not true = refl
-      not-not false = refl
 
 -- ---- what is decided
 module _ (ws : List ℕ) where

@@ -1,8 +1,6 @@
 // The desk of the master's memory: open, start, write, tune and abort. Each call decides first, looking only, and then changes.
 ghost use Prim.Native.Nat.{_+_};
 ghost use mathlib.Core.Path.{_≡_};
-ghost use mathlib.Core.Bool.{_&&_, not};
-ghost use lib.Dec.{eqb};
 ghost use lib.IntN.{ℤ};
 ghost use lib.ListN.{set};
 ghost use Rattle.transaction.specs.Transaction.{fresh, tuned, written};
@@ -19,6 +17,8 @@ use memory::WORDS;
 use memory::base_of;
 use memory::load;
 use memory::store;
+use places::free_place;
+use places::place_of;
 use transaction::Transaction;
 use units::Bounds;
 use units::Refusal;
@@ -67,52 +67,6 @@ fn clear(memory: &mut [u32; WORDS])
         store(memory, i, Transaction::fresh(Stamp(0)).end());
         i += 1;
     }
-}
-
-// The place of the open transaction of a name, or how many places there are.
-pub fn place_of(memory: &[u32; WORDS], name: Stamp) -> usize
-    ensures { λ r. ⌜ r ≡ placeOf (placesOf (now (memory .entry))) (name .0) ⌝ }
-{
-    let n = name.0;
-    let mut i = 0;
-    while i < limits::DESK {
-        let b = base_of(i);
-        if goes_by(memory[b], memory[b + LIVE], n) {
-            return i;
-        }
-        i += 1;
-    }
-    i
-}
-
-// The first free place, or how many places there are.
-pub fn free_place(memory: &[u32; WORDS]) -> usize
-    ensures { λ r. ⌜ r ≡ freePlace (placesOf (now (memory .entry))) ⌝ }
-{
-    let mut i = 0;
-    while i < limits::DESK {
-        let b = base_of(i);
-        if is_free(memory[b + LIVE]) {
-            return i;
-        }
-        i += 1;
-    }
-    i
-}
-
-fn goes_by(name: u32, live: u32, n: u32) -> bool
-    ensures { λ r. ⌜ r ≡ (not (eqb live 0) && eqb name n) ⌝ }
-{
-    if live == 0 {
-        return false;
-    }
-    name == n
-}
-
-fn is_free(live: u32) -> bool
-    ensures { λ r. ⌜ r ≡ eqb live 0 ⌝ }
-{
-    live == 0
 }
 
 pub fn decide_start(memory: &[u32; WORDS]) -> Starting

@@ -1,6 +1,6 @@
 use borrow.Author.Tests.{eq-eqb, ne-eqb}
-use Rattle.desk.proofs.goes_by.Statement.{statement}
-use Rattle.desk.proofs.goes_by.Tie as tie
+use Rattle.places.proofs.goes_by.Statement.{statement}
+use Rattle.places.proofs.goes_by.Tie as tie
 
 returns : tie.Need-returns
 returns c = simp (eq-eqb _ _ (c .if1 .taken))

@@ -7,12 +7,12 @@ use Rattle.lists.proofs.Find.{search-over, search-hit, search-miss}
 use Rattle.memory.specs.Memory.{placesOf}
 use Rattle.memory.proofs.Laws.{places-length}
 use Rattle.model.specs.State.{freePlace, noTransaction}
-use Rattle.desk.proofs.Laws.{free-at}
+use Rattle.places.proofs.Laws.{free-at}
 use Rattle.transaction.specs.declared.Transaction.{Transaction}
 use mathlib.Core.Bool.{Bool, not}
 use borrow.Author.Needs.{needs}
-use Rattle.desk.proofs.free_place.Statement.{statement}
-use Rattle.desk.proofs.free_place.Tie as tie
+use Rattle.places.proofs.free_place.Statement.{statement}
+use Rattle.places.proofs.free_place.Tie as tie
 
 abbrev isFree : Transaction → Bool
 isFree t = not (t .live)

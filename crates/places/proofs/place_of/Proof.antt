@@ -7,10 +7,10 @@ use Rattle.lists.proofs.Find.{search-over, search-hit, search-miss}
 use Rattle.memory.specs.Memory.{placesOf}
 use Rattle.memory.proofs.Laws.{places-length}
 use Rattle.model.specs.State.{placeOf, goesBy, noTransaction}
-use Rattle.desk.proofs.Laws.{goes-at}
+use Rattle.places.proofs.Laws.{goes-at}
 use borrow.Author.Needs.{needs}
-use Rattle.desk.proofs.place_of.Statement.{statement}
-use Rattle.desk.proofs.place_of.Tie as tie
+use Rattle.places.proofs.place_of.Statement.{statement}
+use Rattle.places.proofs.place_of.Tie as tie
 
 abbrev Inv-loop : tie.InvT-loop
 Inv-loop memory n i₀ i = (i ≤ 32) × (placeOf (placesOf memory) n ≡ i + find (goesBy n) (drop i (placesOf memory)))
