@@ -154,6 +154,7 @@ fn ran_to(k: Came, totals: Totals) -> Ran
     }
 }
 
+// Asked where the pass goes on, which it does with a record.
 fn record_of(k: Came) -> Record
     ensures { λ r. ⌜ r ≡ recordOf (cameReply k) ⌝ }
 {
