@@ -1,10 +1,10 @@
 #!/usr/bin/env python3
-"""The stored histories of crates/judge_edges and what document 01 says is printed of each.
+"""The stored histories of crates/judge_edges and what document 01, with the landed requests of document 02, says is printed of each.
 
     tests/expected/judge_edges.py histories   writes crates/judge_edges/stdin
     tests/expected/judge_edges.py output      writes crates/judge_edges/stdout
 
-Each output stands beside its history, by the sentence of document 01 that gives it; nothing here judges.
+Each output stands beside its history, by the sentence that gives it; nothing here judges.
 """
 import sys
 
@@ -82,7 +82,9 @@ CASES = [
     # the same of k3 in P7 as a history: one version of key 5 lies between the two versions that 1 read
     (ROOM, TORN + line("k", 1, 1, 1, 1) + line("k", 1, 1, 1, 0) + line("c", 1), judged([(2, "ok"), (4, "ok"), (1, "SV")], (3, 3, 0, 0))),
     (ROOM, TORN + line("k", 1, 1, 1, 0) + line("k", 1, 1, 1, 1) + line("c", 1), judged([(2, "ok"), (4, "ok"), (1, "ok")], (3, 3, 0, 0))),
-    # "else the default": 3 has a `k` line before and behind the start of 2, and 2 has none; then each has its own, and 3's stands last
+    # M-100: "the judge keeps (1, 0, 0) for a transaction without a `k` line": one version behind is too old, which the master's default (2, 0, 1) allows
+    (ROOM, STALE + STALE_END, second("BV")),
+    # the same where 3 has a `k` line before and behind the start of 2, and 2 has none; then each has its own, and 3's stands last
     (ROOM, line("s", 3) + line("k", 3, 2, 0, 0) + STALE + line("k", 3, 2, 0, 0) + STALE_END + line("c", 3), judged([(1, "ok"), (2, "BV"), (3, "ok")], (3, 3, 0, 0))),
     (ROOM, line("s", 3) + STALE + line("k", 2, 1, 0, 0) + line("k", 3, 2, 0, 0) + STALE_END + line("c", 3), judged([(1, "ok"), (2, "BV"), (3, "ok")], (3, 3, 0, 0))),
     # 12: "history longer than 65,536 bytes"

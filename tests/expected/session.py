@@ -1,5 +1,5 @@
 #!/usr/bin/env python3
-"""The stored session of crates/session and its expected replies, from document 01 and docs/SESSION.md alone.
+"""The stored session of crates/session and its expected replies, from document 01, the landed requests of document 02 and docs/SESSION.md alone.
 
     tests/expected/session.py steps     writes the steps (crates/session/stdin)
     tests/expected/session.py replies   reads steps on standard input and writes the replies that document 01 gives them
@@ -10,6 +10,8 @@ import re
 import sys
 
 LAST = 4294967295
+# M-100: "The default becomes (2, 0, 1)."
+DEFAULT = (2, 0, 1)
 NUM = r"(0|[1-9][0-9]*)"
 
 
@@ -89,7 +91,7 @@ class Session:
         if m.clock == LAST:
             return self.refuse(5)
         m.clock += 1
-        m.open[m.clock] = {"bounds": (1, 0, 0), "reads": [], "writes": {}}
+        m.open[m.clock] = {"bounds": DEFAULT, "reads": [], "writes": {}}
         return "start %d" % m.clock
 
     # "Read, write: 1, 2, ..", "Note: 1, 2, .."
@@ -241,8 +243,8 @@ def steps():
     # P1, P2
     for tune in ([], ["tune 2 1 1 0"]):
         out.extend(["open 0", "start", "start", "write 1 5 -2048", "commit 1"] + tune + ["read 2 5", "distance 2 0", "commit 2"])
-    # P3, P4
-    for tune in ([], ["tune 3 2 0 0"]):
+    # P3, which by M-100 commits; its answer of document 01, with (1, 0, 0) tuned; P4
+    for tune in ([], ["tune 3 1 0 0"], ["tune 3 2 0 0"]):
         out.extend(["open 0", "start", "write 1 5 7", "commit 1", "start"] + tune + ["note 3 5 0", "distance 3 0", "commit 3"])
     # P5, P6
     out.extend(["open 0", "start", "start", "write 1 5 7", "write 2 5 8", "commit 1", "commit 2"])
@@ -272,10 +274,16 @@ def steps():
     out.extend(["distance 34 %d" % i for i in range(6)] + ["commit 34", "distance 34 0"])
     # one version fills all 16 places, and the 17th read of it gets 4; an abort, and the place is free
     out.extend(["start"] + ["read 36 5"] * 17 + ["note 36 5 1", "distance 36 15", "abort 36", "abort 36"])
-    # aborted by BV, the place free again; then by FV and WC, the other that commits meanwhile being followed by one more at its own place
-    out.extend(["start", "note 37 5 1", "note 37 5 0", "distance 37 1", "commit 37", "commit 37"])
+    # aborted by BV under calibration's (1, 0, 0), the place free again; then by FV and WC, the other that commits meanwhile being followed by one more at its own place
+    out.extend(["start", "tune 37 1 0 0", "note 37 5 1", "note 37 5 0", "distance 37 1", "commit 37", "commit 37"])
     out.extend(["start", "start", "write 1 9 1", "commit 1", "start", "start", "read 38 9", "distance 38 0", "commit 38"])
     out.extend(["start", "write 2 7 1", "commit 2", "start", "tune 41 1 0 65535", "write 41 20 1", "write 41 7 2", "commit 41", "start", "start"])
+    # M-100's default, each number by the read or the pair that it just lets through and the one that it does not: key 5 has versions 1 and 2 before
+    # the start and 3 behind it, key 6 one before it that is later than key 5's second. One behind commits; so does one behind torn from key 6, which
+    # (2, 0, 0) aborts; two behind is aborted by BV, one past the start by FV; and a tuning that is refused leaves the default
+    history = ["open 0", "start", "write 1 5 1", "commit 1", "start", "write 3 5 2", "commit 3", "start", "write 5 6 3", "commit 5", "start", "start", "write 8 5 4", "commit 8"]
+    for notes in (["note 7 5 1"], ["note 7 5 1", "note 7 6 1"], ["note 7 6 1", "tune 7 2 0 0", "note 7 5 1"], ["note 7 6 1", "note 7 5 0"], ["note 7 6 1", "note 7 5 3"], ["tune 7 0 9 9", "note 7 5 1"]):
+        out.extend(history + notes + ["distance 7 0", "distance 7 1", "commit 7"])
     # a start at the last clock but one gets the last stamp, the next gets 5; so does a commit, and its transaction stays open
     out.extend(["open 4294967294", "start", "start", "write 4294967295 5 1", "commit 4294967295", "read 4294967295 5", "abort 4294967295", "commit 4294967295"])
     out.extend(["open 4294967295", "start", "open 4294967293", "start", "write 4294967294 5 1", "commit 4294967294", "newest 5"])

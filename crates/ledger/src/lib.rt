@@ -73,7 +73,7 @@ fn fresh_row(line: u32, name: u32) -> Row
         start: line,
         end: 0,
         keys: 0,
-        bounds: Bounds::DEFAULT,
+        bounds: Bounds::CALIBRATION,
         last: 0,
     }
 }

@@ -2,7 +2,7 @@
 use mathlib.Core.Path.{refl}
 use mathlib.Core.List.{[], _∷_}
 use Rattle.lists.specs.Lists.{any, count}
-use Rattle.units.specs.Bounds.{default}
+use Rattle.units.specs.Bounds.{calibration}
 use Rattle.records.specs.declared.Verdict.the-variants.{Ok, FV}
 use Rattle.records.specs.Ledger.{Ledger, blank, rowOf, become, rowsUpTo, rowsBetween, resolved, chain, verdictOn, changed, noted, concluded, lineStep}
 use Rattle.records.specs.Tally.{totalsOf}
@@ -13,8 +13,8 @@ abbrev after-c2 : Ledger
 after-c2 =
     record {
       rows =
-          record { name = 2; start = 2; end = 6; keys = 0; bounds = default; last = 1 }
-          ∷ record { name = 1; start = 1; end = 4; keys = 32; bounds = default; last = 0 }
+          record { name = 2; start = 2; end = 6; keys = 0; bounds = calibration; last = 1 }
+          ∷ record { name = 1; start = 1; end = 4; keys = 32; bounds = calibration; last = 0 }
           ∷ [];
       seens = record { key = 5; line = 4; before = 0 } ∷ [];
       judged = record { name = 2; verdict = FV } ∷ record { name = 1; verdict = Ok } ∷ [];

@@ -13,7 +13,7 @@ use borrow.Author.Tests.{eqb-true, eqb-false, eq-eqb, ne-eqb, lt-ltb}
 use Rattle.lists.specs.Lists.{any, Every, none, also}
 use Rattle.lists.specs.Members.{Distinct, empty, apart}
 use Rattle.lists.proofs.Every.{every-map, any-none, none-any}
-use Rattle.units.specs.Bounds.{default}
+use Rattle.units.specs.Bounds.{calibration}
 use Rattle.units.specs.declared.Bounds.{Bounds}
 use Rattle.records.specs.Parts.{nameOf, starts, tunes, isWriting, commits, aborts, isStart, isCommit, isWrite, isAbort}
 use Rattle.records.specs.declared.Record.{Record}
@@ -185,7 +185,7 @@ bounds-tied r small t started = tied (λ (q : Row). q .bounds) boundsOrNone (λ 
     others : (e : Record) (g : History) (u : ℕ) → nameOf e ≢ u → boundsOrNone (e ∷ g) u ≡ boundsOrNone g u
     others e g u n = rw (other-start u e n, other-bounds u e g n)
 
-    begins : (g : History) (u : ℕ) → noRow .bounds ≡ boundsOrNone g u → Every (λ (e : Record). nameOf e ≢ u) g → default ≡ boundsOrNone (Start u ∷ g) u
+    begins : (g : History) (u : ℕ) → noRow .bounds ≡ boundsOrNone g u → Every (λ (e : Record). nameOf e ≢ u) g → calibration ≡ boundsOrNone (Start u ∷ g) u
     begins g u e s = rw (eq-eqb u u refl) (sym (unsaid boundsIn (λ k i v n. other-bounds v k i n) u s))
 
     moves : (g : History) (e : Record) (n : ℕ) (q : Row) → Moves g e q

@@ -9,7 +9,7 @@ use lib.IntN.{ℤ, pos, negℤ, _-ℤ_}
 use lib.ListN.{length}
 use lib.Signed.{ltZ, leZ}
 use Rattle.lists.specs.Lists.{any, count}
-use Rattle.units.specs.Bounds.{default}
+use Rattle.units.specs.Bounds.{calibration}
 use Rattle.records.specs.declared.Record.{Record}
 use Rattle.records.specs.declared.Record.the-variants.{Start, Tune, Read, Write, Commit, Abort}
 use Rattle.records.specs.Parts.{partsOf, nameOf, starts, isReading, commits}
@@ -117,7 +117,7 @@ verdictOn rows seens line r =
     (first (any (overtakes line r) rows) WC Ok))))
 
 abbrev pub freshRow : ℕ → ℕ → Row
-freshRow line t = record { name = t; start = line; end = 0; keys = 0; bounds = default; last = 0 }
+freshRow line t = record { name = t; start = line; end = 0; keys = 0; bounds = calibration; last = 0 }
 
 -- an own read after the own write is no record
 abbrev pub isRecorded : Row → ℕ → ℕ → Bool

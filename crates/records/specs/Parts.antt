@@ -3,12 +3,12 @@
 use Prim.Native.Nat.{ℕ}
 use mathlib.Core.Bool.{Bool, _&&_}
 use lib.Dec.{eqb}
-use Rattle.units.specs.Bounds.{default}
+use Rattle.units.specs.Bounds.{calibration}
 use Rattle.units.specs.declared.Bounds.{Bounds}
 use Rattle.records.specs.declared.Record.{Record}
 use Rattle.records.specs.declared.Record.the-variants.{Start, Tune, Read, Write, Commit, Abort}
 
--- a field that a record does not have is 0, bounds are the default
+-- a field that a record does not have is 0, bounds are those of a transaction without a `k` line
 pub record Parts : Type 0 where
   pub letter : ℕ
   pub name : ℕ
@@ -17,12 +17,12 @@ pub record Parts : Type 0 where
   pub source : ℕ
 
 abbrev pub partsOf : Record → Parts
-partsOf (Start t) = record { letter = 115; name = t; bounds = default; key = 0; source = 0 }
+partsOf (Start t) = record { letter = 115; name = t; bounds = calibration; key = 0; source = 0 }
 partsOf (Tune t b) = record { letter = 107; name = t; bounds = b; key = 0; source = 0 }
-partsOf (Read t x w) = record { letter = 114; name = t; bounds = default; key = x; source = w }
-partsOf (Write t x) = record { letter = 119; name = t; bounds = default; key = x; source = 0 }
-partsOf (Commit t) = record { letter = 99; name = t; bounds = default; key = 0; source = 0 }
-partsOf (Abort t) = record { letter = 97; name = t; bounds = default; key = 0; source = 0 }
+partsOf (Read t x w) = record { letter = 114; name = t; bounds = calibration; key = x; source = w }
+partsOf (Write t x) = record { letter = 119; name = t; bounds = calibration; key = x; source = 0 }
+partsOf (Commit t) = record { letter = 99; name = t; bounds = calibration; key = 0; source = 0 }
+partsOf (Abort t) = record { letter = 97; name = t; bounds = calibration; key = 0; source = 0 }
 
 -- T
 abbrev pub nameOf : Record → ℕ

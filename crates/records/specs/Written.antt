@@ -10,7 +10,7 @@ use lib.IntN.{ℤ, pos, negℤ, _-ℤ_}
 use lib.ListN.{length}
 use lib.Signed.{_<ℤ_, _≤ℤ_}
 use Rattle.lists.specs.Lists.{any, count, filter, Every}
-use Rattle.units.specs.Bounds.{default}
+use Rattle.units.specs.Bounds.{calibration}
 use Rattle.units.specs.declared.Bounds.{Bounds}
 use Rattle.records.specs.declared.Record.{Record}
 use Rattle.records.specs.declared.Record.the-variants.{Tune}
@@ -33,9 +33,9 @@ commitLine h t = lineWhere (isCommit t) h
 abbrev pub wrote : History → ℕ → ℕ → Bool
 wrote h t x = any (isWrite t x) h
 
--- "the last one counts, else the default"
+-- "the last one counts"; M-100: "the judge keeps (1, 0, 0) for a transaction without a `k` line, as old files mean that"
 unfoldable pub boundsIn : History → ℕ → Bounds
-boundsIn [] t = default
+boundsIn [] t = calibration
 boundsIn (r ∷ h) t = cond (isTune t r) (partsOf r .bounds) (boundsIn h t)
 
 -- a line that is no `k` line of t

@@ -1,4 +1,4 @@
--- Bound triples: document 01, "A bound triple is (k1, k2, k3) .. k1 at least 1", and the named ones.
+-- Bound triples: document 01, "A bound triple is (k1, k2, k3) .. k1 at least 1", and the named ones, with M-100's.
 use Prim.Native.Nat.{ℕ}
 use mathlib.Core.Bool.{cond}
 use lib.Dec.{eqb}
@@ -17,8 +17,13 @@ anyBound = 65535
 abbrev pub snapshot : Bounds
 snapshot = triple 1 0 anyBound
 
+-- M-100: "The default becomes (2, 0, 1)": a copy is often one version late
 abbrev pub default : Bounds
-default = triple 1 0 0
+default = triple 2 0 1
+
+-- M-100: "calibration transactions now tune to (1, 0, 0) themselves, and the judge keeps (1, 0, 0) for a transaction without a `k` line"
+abbrev pub calibration : Bounds
+calibration = triple 1 0 0
 
 -- what the constructor of a triple answers, in document 01's numbers
 pub data TripleReply : Type 0 where

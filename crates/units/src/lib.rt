@@ -3,7 +3,7 @@ ghost use Prim.Native.Nat.{min};
 ghost use mathlib.Core.Path.{_≡_};
 ghost use mathlib.Core.List.{[]};
 ghost use Rattle.units.specs.Batch.{batchOf, added};
-ghost use Rattle.units.specs.Bounds.{bounded, tripleReply, snapshot, default};
+ghost use Rattle.units.specs.Bounds.{bounded, tripleReply, snapshot, default, calibration};
 ghost use Rattle.units.specs.Version.{startVersion};
 
 pub mod limits;
@@ -108,13 +108,21 @@ impl Bounds {
         k3: limits::ANY,
     };
 
+    // For the halls, whose copies are often one version late: what a started transaction has until it is tuned.
     pub const DEFAULT: Bounds = Bounds {
+        k1: 2,
+        k2: 0,
+        k3: 1,
+    };
+
+    // What calibration tunes to, and what old files mean by a transaction without a `k` line.
+    pub const CALIBRATION: Bounds = Bounds {
         k1: 1,
         k2: 0,
         k3: 0,
     };
 
-    // The constants by a contract, so that neither can say another triple.
+    // The constants by a contract, so that none can say another triple.
     pub fn snapshot() -> Bounds
         ensures { λ r. ⌜ r ≡ snapshot ⌝ }
     {
@@ -125,6 +133,12 @@ impl Bounds {
         ensures { λ r. ⌜ r ≡ default ⌝ }
     {
         Bounds::DEFAULT
+    }
+
+    pub fn calibration() -> Bounds
+        ensures { λ r. ⌜ r ≡ calibration ⌝ }
+    {
+        Bounds::CALIBRATION
     }
 
     // k1 is at least 1.

@@ -12,4 +12,4 @@ use Rattle.worked.specs.Table.{Holds, table}
 
 pub worked : Every Holds table
 unfolding find count any recorded written wroteAt pendingOf upTo between changedAfter versions newest logged lookUp installed madeAt distance brokenAt certified placeOf freePlace order checksOf finalOf step replies
-worked = also refl (also refl (also refl (also refl (also refl (also refl (also refl (also refl (also refl (also p10 none)))))))))
+worked = also refl (also refl (also refl (also refl (also refl (also refl (also refl (also refl (also refl (also refl (also p10 none))))))))))

@@ -1,5 +1,5 @@
 -- The worked examples P1 to P10 of document 01: sessions with their replies, and a written history with its verdicts and totals. The
--- master is opened at 0; default bounds unless given.
+-- master is opened at 0; default bounds unless given, by M-100 (2, 0, 1), with which P1, P5 and P6 answer as before.
 use Prim.Native.Nat.{ℕ}
 use mathlib.Core.List.{List, [], _∷_}
 use mathlib.Core.Path.{_≡_}
@@ -35,10 +35,14 @@ table =
     ∷ session
     (Start ∷ Start ∷ Write 1 5 (negsuc 2047) ∷ Commit 1 ∷ Tune 2 1 1 0 ∷ Read 2 5 ∷ Distance 2 0 ∷ Commit 2 ∷ [])
     (started 1 ∷ started 2 ∷ done ∷ committed 3 ∷ done ∷ answered 1 3 (negsuc 2047) ∷ apartBy (negsuc 0) ∷ committed 4 ∷ [])
-    -- P3. Start 1 writes key 5, commits at 2; start 3 notes key 5 ordinal 0: distance 1; aborted BV
+    -- P3. Start 1 writes key 5, commits at 2; start 3 notes key 5 ordinal 0: distance 1; by M-100 it "now commits at 4"
     ∷ session
     (Start ∷ Write 1 5 (pos 7) ∷ Commit 1 ∷ Start ∷ Note 3 5 0 ∷ Distance 3 0 ∷ Commit 3 ∷ [])
-    (started 1 ∷ done ∷ committed 2 ∷ started 3 ∷ answered 0 0 (pos 0) ∷ apartBy (pos 1) ∷ aborted (BV 0) ∷ [])
+    (started 1 ∷ done ∷ committed 2 ∷ started 3 ∷ answered 0 0 (pos 0) ∷ apartBy (pos 1) ∷ committed 4 ∷ [])
+    -- P3 as document 01 has it, "kept as a case with (1, 0, 0) tuned": aborted BV
+    ∷ session
+    (Start ∷ Write 1 5 (pos 7) ∷ Commit 1 ∷ Start ∷ Tune 3 1 0 0 ∷ Note 3 5 0 ∷ Distance 3 0 ∷ Commit 3 ∷ [])
+    (started 1 ∷ done ∷ committed 2 ∷ started 3 ∷ done ∷ answered 0 0 (pos 0) ∷ apartBy (pos 1) ∷ aborted (BV 0) ∷ [])
     -- P4. With (2, 0, 0): committed at 4
     ∷ session
     (Start ∷ Write 1 5 (pos 7) ∷ Commit 1 ∷ Start ∷ Tune 3 2 0 0 ∷ Note 3 5 0 ∷ Distance 3 0 ∷ Commit 3 ∷ [])
