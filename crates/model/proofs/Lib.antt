@@ -18,6 +18,7 @@ pub mod Signed
 pub mod Snapshot
 pub mod Granted
 pub mod Reached
+pub mod Untuned
 pub mod Follows
 pub mod Distances
 pub mod Uncharged

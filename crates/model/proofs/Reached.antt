@@ -43,7 +43,7 @@ abbrev Names : List Transaction → Type 0
 Names ps = (i j : ℕ) → at ps i .live ≡ true → at ps j .live ≡ true → at ps i .name .0 ≡ at ps j .name .0 → i ≡ j
 
 -- what stands at j after i was set
-set-cases : {A : Type 0} (P : ℕ → A → Type 0) (l : List A) (i : ℕ) (a d : A) → i < length l → P i a → ((j : ℕ) → j ≢ i → P j (getD l j d)) → (j : ℕ) → P j (getD (set l i a) j d)
+pub set-cases : {A : Type 0} (P : ℕ → A → Type 0) (l : List A) (i : ℕ) (a d : A) → i < length l → P i a → ((j : ℕ) → j ≢ i → P j (getD l j d)) → (j : ℕ) → P j (getD (set l i a) j d)
 set-cases P l i a d h p f j = go (ℕ-discrete j i)
   where
     go : Dec (j ≡ i) → P j (getD (set l i a) j d)
@@ -76,11 +76,11 @@ name-kept : (b : Bool) (u t : Transaction) → u .name .0 ≡ t .name .0 → (co
 name-kept true u t e = e
 name-kept false u t e = refl
 
-recorded-name : (t : Transaction) (m : Mark) → recorded t m .name .0 ≡ t .name .0
+pub recorded-name : (t : Transaction) (m : Mark) → recorded t m .name .0 ≡ t .name .0
 unfolding recorded
 recorded-name t m = name-kept (ltb (t .recorded) 16) _ t refl
 
-written-name : (t : Transaction) (k : ℕ) (v : ℤ) → written t k v .name .0 ≡ t .name .0
+pub written-name : (t : Transaction) (k : ℕ) (v : ℤ) → written t k v .name .0 ≡ t .name .0
 unfolding written
 written-name t k v = name-kept (ltb (wroteAt t k) 16) _ t refl
 
