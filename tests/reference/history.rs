@@ -100,7 +100,7 @@ fn take(all: &mut Vec<Transaction>, line: u32, number: u32, record: Record) -> R
         if all.len() >= HISTORY_TRANSACTIONS {
             return Err(TOO_MANY_STARTS);
         }
-        all.push(Transaction { number, start: line, end: End::Open, bounds: DEFAULT, reads: Vec::new(), writes: Vec::new() });
+        all.push(Transaction { number, start: line, end: End::Open, bounds: CALIBRATION, reads: Vec::new(), writes: Vec::new() });
         return Ok(());
     }
     let t = &mut all[place.ok_or(WRONG_TRANSACTION)?];

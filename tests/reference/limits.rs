@@ -1,4 +1,4 @@
-// The numbers of document 01: its limits, its refusals, a version and a triple of bounds.
+// The numbers of document 01: its limits, its refusals, a version and a triple of bounds; with M-100's default.
 
 pub const KEYS: u32 = 64;
 pub const OPEN: usize = 32;
@@ -53,4 +53,8 @@ pub struct Bounds {
     pub k3: u32,
 }
 
-pub const DEFAULT: Bounds = Bounds { k1: 1, k2: 0, k3: 0 };
+/// A transaction at the master that was not tuned (M-100).
+pub const DEFAULT: Bounds = Bounds { k1: 2, k2: 0, k3: 1 };
+
+/// What calibration tunes to, and a written transaction without a `k` line (M-100).
+pub const CALIBRATION: Bounds = Bounds { k1: 1, k2: 0, k3: 0 };

@@ -261,10 +261,13 @@ impl Maker {
         }
     }
 
-    /// Small ones, or the ones that the reads just keep or just miss.
+    /// Calibration's, small ones, or the ones that the reads just keep or just miss.
     fn bounds(&mut self, name: u32) -> [u64; 3] {
         if self.r.one_in(40) {
             return [0, self.r.below(3), self.r.below(3)];
+        }
+        if self.r.one_in(8) {
+            return [CALIBRATION.k1, CALIBRATION.k2, CALIBRATION.k3].map(u64::from);
         }
         let mut k = [self.r.pick(&[1, 2, 3, 5, 65_535]), self.r.pick(&[0, 1, 3, 5, 65_535]), self.r.pick(&[0, 0, 0, 1, 1, 2, 3, 65_535])];
         let distances: Vec<i64> = (0..READS as u32).filter_map(|place| self.session.master.distance(name, place).ok()).collect();

@@ -1,10 +1,10 @@
-// How often each step got each kind of reply, and each history each verdict or refusal; and which of them never came.
+// How often each step got each kind of reply, and each history each verdict or refusal, with whose bounds; and which of them never came.
 
 use crate::limits::{HISTORY_BYTES, HISTORY_LINES, HISTORY_TRANSACTIONS};
-use std::collections::BTreeMap;
+use std::collections::{BTreeMap, BTreeSet};
 
 /// For each step, and for a history, what a long comparison has to meet.
-const WANTED: [(&str, &[&str]); 17] = [
+const WANTED: [(&str, &[&str]); 20] = [
     ("open", &["open"]),
     ("start", &["start", "refused 3", "refused 5"]),
     ("read", &["read", "own", "refused 1", "refused 2", "refused 4"]),
@@ -14,6 +14,9 @@ const WANTED: [(&str, &[&str]); 17] = [
     ("distance", &["stale", "newest", "later", "refused 1", "refused 9"]),
     ("abort", &["abort", "refused 1"]),
     ("commit", &["commit", "refused 1", "aborted BV", "aborted FV", "aborted SV", "aborted WC", "refused 6", "refused 5"]),
+    // SV holds under both where BV and FV do.
+    ("commit", &["untuned: commit", "untuned, one behind: commit", "untuned: aborted BV", "untuned: aborted FV", "untuned: aborted WC"]),
+    ("commit", &["calibration: commit", "calibration: aborted BV", "calibration: aborted FV", "calibration: aborted WC"]),
     ("message", &["message", "refused 18", "refused 17"]),
     ("newest", &["newest", "refused 2"]),
     ("copy", &["copy"]),
@@ -21,6 +24,7 @@ const WANTED: [(&str, &[&str]); 17] = [
     ("look", &["look", "refused 2"]),
     ("compare", &["equal", "behind", "refused 11"]),
     (HISTORY, &["ok", "RC", "BV", "FV", "SV", "WC", "refused 12", "refused 14", "refused 13", "refused 15", "refused 16"]),
+    (HISTORY, &["no k line: ok", "no k line: RC", "no k line: BV", "no k line: FV", "no k line: WC"]),
     (HISTORY, &[FULL_BYTES, FULL_LINES, FULL_STARTS]),
 ];
 
@@ -33,11 +37,14 @@ pub struct Tally {
     counts: BTreeMap<String, u64>,
     pub steps: u64,
     pub lines: u64,
+    /// The bounds of this master's transactions that were tuned, and those that were told a distance of 1.
+    tuned: BTreeMap<String, String>,
+    late: BTreeSet<String>,
 }
 
 impl Tally {
     pub fn new() -> Tally {
-        Tally { counts: BTreeMap::new(), steps: 0, lines: 0 }
+        Tally { counts: BTreeMap::new(), steps: 0, lines: 0, tuned: BTreeMap::new(), late: BTreeSet::new() }
     }
 
     fn count(&mut self, what: &str, reply: &str) {
@@ -48,7 +55,32 @@ impl Tally {
         self.steps += 1;
         let word = step.split(|&b| b == b' ').next().unwrap();
         let known = WANTED.iter().map(|w| w.0).find(|w| w.as_bytes() == word);
-        self.count(known.unwrap_or("another word"), &kind(&String::from_utf8_lossy(reply)));
+        let (step, reply) = (String::from_utf8_lossy(step), String::from_utf8_lossy(reply));
+        self.count(known.unwrap_or("another word"), &kind(&reply));
+        self.bounded(&step.split(' ').collect::<Vec<&str>>(), &reply);
+    }
+
+    /// Which bounds a commit was granted or aborted under, where they are M-100's.
+    fn bounded(&mut self, step: &[&str], reply: &str) {
+        match *step {
+            ["open", _] if reply.starts_with("open") => {
+                self.tuned.clear();
+                self.late.clear();
+            }
+            ["tune", t, k1, k2, k3] if reply == "tune" => {
+                self.tuned.insert(t.to_string(), format!("{k1} {k2} {k3}"));
+            }
+            ["distance", t, _] if reply == "distance 1" => {
+                self.late.insert(t.to_string());
+            }
+            ["commit", t] if !reply.starts_with("refused") && reply != "unknown" => match self.tuned.get(t).map(String::as_str) {
+                None if reply.starts_with("commit") && self.late.contains(t) => self.count("commit", "untuned, one behind: commit"),
+                None => self.count("commit", &format!("untuned: {}", kind(reply))),
+                Some("1 0 0") => self.count("commit", &format!("calibration: {}", kind(reply))),
+                Some(_) => {}
+            },
+            _ => {}
+        }
     }
 
     pub fn history(&mut self, text: &[u8], output: &str) {
@@ -67,8 +99,14 @@ impl Tally {
         if output.contains(&format!("total {HISTORY_TRANSACTIONS} ")) {
             self.count(HISTORY, FULL_STARTS);
         }
-        for verdict in output.lines().filter(|line| !line.starts_with("judge ") && !line.starts_with("total ")) {
-            self.count(HISTORY, verdict.rsplit(' ').next().unwrap());
+        let text = String::from_utf8_lossy(text);
+        let tuned: BTreeSet<&str> = text.lines().filter_map(|line| line.strip_prefix("k\t")?.split('\t').next()).collect();
+        for line in output.lines().filter(|line| !line.starts_with("judge ") && !line.starts_with("total ")) {
+            let (number, verdict) = line.split_once(' ').unwrap();
+            self.count(HISTORY, verdict);
+            if !tuned.contains(number) {
+                self.count(HISTORY, &format!("no k line: {verdict}"));
+            }
         }
     }
 

@@ -1,4 +1,4 @@
-// Document 01's worked sessions P1 to P10 and the refusals beside them: `rustc --edition 2024 --test main.rs`, then run the result.
+// Document 01's worked sessions P1 to P10, as M-100 leaves them, and the refusals beside them: `rustc --edition 2024 --test main.rs`, then run the result.
 
 use crate::history;
 use crate::session;
@@ -25,7 +25,8 @@ fn p1_p2() {
 fn p3_p4() {
     let begin = ["start", "write 1 5 7", "commit 1", "start", "note 3 5 0", "distance 3 0"];
     assert_eq!(last(&begin), "distance 1");
-    assert_eq!(last(&[&begin[..], &["commit 3"]].concat()), "aborted BV 0");
+    assert_eq!(last(&[&begin[..], &["commit 3"]].concat()), "commit 4");
+    assert_eq!(last(&[&begin[..], &["tune 3 1 0 0", "commit 3"]].concat()), "aborted BV 0");
     assert_eq!(last(&[&begin[..], &["tune 3 2 0 0", "commit 3"]].concat()), "commit 4");
 }
 
