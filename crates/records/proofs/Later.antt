@@ -54,13 +54,13 @@ module _ (e : Record) (h : History) (t : ℕ) (k : Steady e h t) where
   pub rc-stays : KeepsRC (e ∷ h) t ↔ KeepsRC h t
   rc-stays = rw (k .reads) Iff·rfl
 
-  bv-one : (x : ReadLine) → stampOf x ≤ length h → WithinBV (e ∷ h) t x ↔ WithinBV h t x
+  bv-one : (x : ReadLine) → stampOf x ≤ length h → WithinBV (e ∷ h) t (boundsIn (e ∷ h) t) x ↔ WithinBV h t (boundsIn h t) x
   bv-one x b = rw (k .start, k .bounds) (same-less _ (distance-stays x b))
 
-  fv-one : (x : ReadLine) → stampOf x ≤ length h → WithinFV (e ∷ h) t x ↔ WithinFV h t x
+  fv-one : (x : ReadLine) → stampOf x ≤ length h → WithinFV (e ∷ h) t (boundsIn (e ∷ h) t) x ↔ WithinFV h t (boundsIn h t) x
   fv-one x b = rw (k .start, k .bounds) (same-most _ (distance-stays x b))
 
-  sv-one : (x y : ReadLine) → stampOf y ≤ length h → WithinSV (e ∷ h) t x y ↔ WithinSV h t x y
+  sv-one : (x y : ReadLine) → stampOf y ≤ length h → WithinSV (e ∷ h) t (boundsIn (e ∷ h) t) x y ↔ WithinSV h t (boundsIn h t) x y
   sv-one x y c = rw (k .bounds) (same-count _ (between-stays e h (x .key) (stampOf x) (stampOf y) (omega arith)))
 
   pub bv-stays : KeepsBV (e ∷ h) t ↔ KeepsBV h t

@@ -14,8 +14,8 @@ use Rattle.records.specs.declared.Record.the-variants.{Tune}
 use Rattle.records.specs.declared.Verdict.{Verdict}
 use Rattle.records.specs.declared.Verdict.the-variants.{Ok}
 use Rattle.records.specs.Parts.{partsOf, nameOf, tunes, isTune}
-use Rattle.records.specs.Written.{History, boundsIn, NoTune}
-use Rattle.records.specs.Judge.{Names, KeptBy}
+use Rattle.records.specs.Written.{History, boundsIn, NoTune, KeptBy}
+use Rattle.records.specs.Judge.{Names}
 use Rattle.records.proofs.Parts.{tune-is}
 
 untuned : (t : ℕ) (r : Record) → NoTune t r → isTune t r ≡ false
@@ -40,5 +40,5 @@ module _ (t : ℕ) where
   else-calibration (also {x = r} n ns) = rw (untuned t r n) (else-calibration ns)
 
   -- so a right verdict calls it ok exactly if the rules hold by (1, 0, 0)
-  pub judged-calibration : {h : History} {v : Verdict} → Every (NoTune t) h → Names h t v → (v ≡ Ok) ↔ KeptBy (triple 1 0 0) h t
-  judged-calibration {h} {v} ns n = subst (λ (b : Bounds). (v ≡ Ok) ↔ KeptBy b h t) (else-calibration ns) (n .ok)
+  pub judged-calibration : {h : History} {v : Verdict} → Every (NoTune t) h → Names h t v → (v ≡ Ok) ↔ KeptBy h t (triple 1 0 0)
+  judged-calibration {h} {v} ns n = subst (λ (b : Bounds). (v ≡ Ok) ↔ KeptBy h t b) (else-calibration ns) (n .ok)

@@ -1,20 +1,17 @@
 -- The judge over a whole history: the ledger after its lines, and what its verdicts must say.
-use Prim.Native.Nat.{ℕ, suc, _≤_}
+use Prim.Native.Nat.{ℕ, suc}
 use mathlib.Core.List.{List, [], _∷_, map, reverse}
 use mathlib.Core.Logic.{_↔_}
 use mathlib.Core.Path.{_≡_}
 use lib.Dec.{eqb}
-use lib.IntN.{pos, negℤ}
 use lib.ListN.{length}
-use lib.Signed.{_<ℤ_, _≤ℤ_}
 use Rattle.lists.specs.Lists.{any, count, filter, Every}
 use Rattle.lists.specs.Members.{Distinct}
-use Rattle.units.specs.declared.Bounds.{Bounds}
 use Rattle.records.specs.declared.Record.{Record}
 use Rattle.records.specs.Parts.{nameOf, commits, isCommit}
 use Rattle.records.specs.declared.Verdict.{Verdict}
 use Rattle.records.specs.declared.Verdict.the-variants.{Ok, RC, BV, FV, SV, WC}
-use Rattle.records.specs.Written.{History, ReadLine, startLine, stampOf, distanceIn, between, recordedReads, KeepsRC, KeepsBV, KeepsFV, KeepsSV, KeepsWC}
+use Rattle.records.specs.Written.{History, KeepsRC, KeepsBV, KeepsFV, KeepsSV, KeepsWC}
 use Rattle.records.specs.Ledger.{Ledger, went, blank, lineStep}
 use Rattle.records.specs.declared.Judged.{Judged}
 
@@ -35,15 +32,6 @@ pub record Names (h : History) (t : ℕ) (v : Verdict) : Type 0 where
   pub fv : (v ≡ FV) ↔ (KeepsRC h t × KeepsBV h t × ¬ KeepsFV h t)
   pub sv : (v ≡ SV) ↔ (KeepsRC h t × KeepsBV h t × KeepsFV h t × ¬ KeepsSV h t)
   pub wc : (v ≡ WC) ↔ (KeepsRC h t × KeepsBV h t × KeepsFV h t × KeepsSV h t × ¬ KeepsWC h t)
-
--- the five rules of a transaction by a triple that is given, whatever its `k` lines say
-abbrev pub KeptBy : Bounds → History → ℕ → Type 0
-KeptBy b h t =
-    KeepsRC h t
-    × Every (λ (x : ReadLine). distanceIn h (startLine h t) x <ℤ pos (b .k1)) (recordedReads h t)
-    × Every (λ (x : ReadLine). negℤ (distanceIn h (startLine h t) x) ≤ℤ pos (b .k2)) (recordedReads h t)
-    × Every (λ (x : ReadLine). Every (λ (y : ReadLine). between h (x .key) (stampOf x) (stampOf y) ≤ b .k3) (recordedReads h t)) (recordedReads h t)
-    × KeepsWC h t
 
 -- the judge is right on a history, its verdicts in the order in which they are printed: it judges those that committed, each once, "in order of
 -- commit lines", and each as the rules say

@@ -93,14 +93,16 @@ abbrev pub WithinRC : ReadLine → Type 0
 WithinRC x = (x .source ≡ 0) ⊎ ((wrote (x .before) (x .source) (x .key) ≡ true) × (0 < commitLine (x .before) (x .source)))
 
 module _ (h : History) (t : ℕ) where
-  abbrev pub WithinBV : ReadLine → Type 0
-  WithinBV x = distanceIn h (startLine h t) x <ℤ pos (boundsIn h t .k1)
+  -- by a triple
+  module _ (b : Bounds) where
+    abbrev pub WithinBV : ReadLine → Type 0
+    WithinBV x = distanceIn h (startLine h t) x <ℤ pos (b .k1)
 
-  abbrev pub WithinFV : ReadLine → Type 0
-  WithinFV x = negℤ (distanceIn h (startLine h t) x) ≤ℤ pos (boundsIn h t .k2)
+    abbrev pub WithinFV : ReadLine → Type 0
+    WithinFV x = negℤ (distanceIn h (startLine h t) x) ≤ℤ pos (b .k2)
 
-  abbrev pub WithinSV : ReadLine → ReadLine → Type 0
-  WithinSV x y = between h (x .key) (stampOf x) (stampOf y) ≤ boundsIn h t .k3
+    abbrev pub WithinSV : ReadLine → ReadLine → Type 0
+    WithinSV x y = between h (x .key) (stampOf x) (stampOf y) ≤ b .k3
 
   -- u "wrote one of T's keys" and "committed between T's start and T's commit"
   pub record Overtakes (u x : ℕ) : Type 0 where
@@ -115,14 +117,30 @@ module _ (h : History) (t : ℕ) where
   abbrev pub KeepsRC : Type 0
   KeepsRC = Every WithinRC (recordedReads h t)
 
-  abbrev pub KeepsBV : Type 0
-  KeepsBV = Every WithinBV (recordedReads h t)
-
-  abbrev pub KeepsFV : Type 0
-  KeepsFV = Every WithinFV (recordedReads h t)
-
-  abbrev pub KeepsSV : Type 0
-  KeepsSV = Every (λ (x : ReadLine). Every (WithinSV x) (recordedReads h t)) (recordedReads h t)
-
   abbrev pub KeepsWC : Type 0
   KeepsWC = (u x : ℕ) → ¬ Overtakes u x
+
+  module _ (b : Bounds) where
+    abbrev pub KeepsBVBy : Type 0
+    KeepsBVBy = Every (WithinBV b) (recordedReads h t)
+
+    abbrev pub KeepsFVBy : Type 0
+    KeepsFVBy = Every (WithinFV b) (recordedReads h t)
+
+    abbrev pub KeepsSVBy : Type 0
+    KeepsSVBy = Every (λ (x : ReadLine). Every (WithinSV b x) (recordedReads h t)) (recordedReads h t)
+
+    -- all five
+    abbrev pub KeptBy : Type 0
+    KeptBy = KeepsRC × KeepsBVBy × KeepsFVBy × KeepsSVBy × KeepsWC
+
+  -- ---- and by the transaction's own triple
+
+  abbrev pub KeepsBV : Type 0
+  KeepsBV = KeepsBVBy (boundsIn h t)
+
+  abbrev pub KeepsFV : Type 0
+  KeepsFV = KeepsFVBy (boundsIn h t)
+
+  abbrev pub KeepsSV : Type 0
+  KeepsSV = KeepsSVBy (boundsIn h t)
