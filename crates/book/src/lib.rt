@@ -1,4 +1,6 @@
 // The judge's whole ledger in one lent array of words: where each thing lies, and how a row, a recorded read and a verdict are loaded and stored.
+#![tactic(auto)]
+
 ghost use Rattle.std.specs.Prelude.{◌≤◌, ◌/◌, ◌%◌, ◌≡◌};
 ghost use Rattle.records.specs.Ledger.{no_row};
 ghost use Rattle.records.specs.Order.{code_of};

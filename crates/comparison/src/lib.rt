@@ -1,5 +1,7 @@
 // The comparison of a copy with the master: from the copy's 64 ordinals to a word with a one for each key that is behind, how many
 // keys that is, and the lowest of them.
+#![tactic(auto)]
+
 ghost use Rattle.std.specs.Prelude.{◌<◌, ◌^◌, ◌≡◌, cond};
 ghost use Rattle.memory.specs.Memory.{log_of};
 ghost use Rattle.comparison.specs.Comparison.{is_ahead, is_behind, some_key, word_of, compared, compare_reply, newest_ordinal};
@@ -7,7 +9,7 @@ ghost use Rattle.comparison.specs.Comparison.{is_ahead, is_behind, some_key, wor
 use memory::WORDS;
 use units::{Ordinal, Refusal, limits};
 
-#[derive(Drop)]
+#[derive(Clone, Copy)]
 pub enum Compared {
     // The word, the number of keys behind, and the lowest of them; 64 if none.
     Behind(u64, u32, u32),

@@ -1,4 +1,6 @@
 // A hall's copy: the newest version it has heard of, for each key, whatever the order in which messages arrive.
+#![tactic(auto)]
+
 ghost use Rattle.std.specs.Prelude.{◌<◌, ◌≡◌, ltb};
 ghost use Rattle.message.specs.Line.{items_of};
 ghost use Rattle.copy.specs.Copy.{held_reply, take_step, fresh_copy, read_of, ordinals_of, take_item, take_items, take_line};
@@ -7,24 +9,24 @@ use message::{Form, read_message, size};
 use units::{Batch, Item, Ordinal, Refusal, Stamp, Version, limits};
 
 // The version held for each key.
-#[derive(Drop)]
+#[derive(Clone, Copy)]
 pub struct Copy {
     pub versions: [Version; limits::KEYS],
 }
 
-#[derive(Drop)]
+#[derive(Clone, Copy)]
 pub enum ReadAnswer {
     Answered(Version),
     Refused(Refusal),
 }
 
-#[derive(Drop)]
+#[derive(Clone, Copy)]
 pub enum TakeAnswer {
     Taken,
     Refused(Refusal),
 }
 
-#[derive(Drop)]
+#[derive(Clone, Copy)]
 pub struct Taken {
     pub answer: TakeAnswer,
     pub copy: Copy,

@@ -1,4 +1,6 @@
 // What document 01 counts in the log, over the master's memory.
+#![tactic(auto)]
+
 ghost use Rattle.std.specs.Prelude.{◌≡◌, ◌&&◌, eqb, leb};
 ghost use Rattle.model.specs.Log.{up_to, between, changed_after, versions};
 ghost use Rattle.memory.specs.Memory.{log_of, length_of};

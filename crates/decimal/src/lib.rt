@@ -1,4 +1,6 @@
 // Numbers as decimal text: one reader and one writer for every field, over any range; and the texts that stand around them.
+#![tactic(auto)]
+
 mod read;
 mod write;
 

@@ -6,7 +6,7 @@ ghost use Rattle.decimal.specs.Read.{more, digits, unsigned, negative, field_at,
 use crate::{MINUS, NINE, TAB, ZERO};
 
 // The values from least to most and, where below is not 0, those from -below to -1.
-#[derive(Drop)]
+#[derive(Clone, Copy)]
 pub struct Range {
     pub below: u64,
     pub least: u64,
@@ -23,20 +23,20 @@ impl Range {
 }
 
 // A value and the place just behind it. Minus(v, e) is the value -1 - v, so that each value has one form.
-#[derive(Drop)]
+#[derive(Clone, Copy)]
 pub enum Field {
     Plus(u64, usize),
     Minus(u64, usize),
     Bad,
 }
 
-#[derive(Drop)]
+#[derive(Clone, Copy)]
 pub enum Natural {
     Number(u64, usize),
     Bad,
 }
 
-#[derive(Drop)]
+#[derive(Clone, Copy)]
 pub enum Signed {
     Number(i32, usize),
     Bad,

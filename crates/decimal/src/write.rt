@@ -7,14 +7,14 @@ ghost use Rattle.decimal.specs.Write.{put, wrote, sign_of};
 use crate::{MINUS, ZERO};
 
 // The place just behind what was written, or Full where it did not fit and the buffer is as it was.
-#[derive(Drop)]
+#[derive(Clone, Copy)]
 pub enum Put {
     Next(usize),
     Full,
 }
 
 // A signed value, taken apart: Minus(v) is -1 - v.
-#[derive(Drop)]
+#[derive(Clone, Copy)]
 enum Sign {
     Plus(u32),
     Minus(u32),

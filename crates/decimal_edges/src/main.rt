@@ -1,5 +1,7 @@
 // Reads texts, one a line, and prints each with what the ranges of document 01 make of it: as a key, an ordinal,
 // a bound, a stamp, a 64-bit word and a signed value, each as the writer puts it back, or bad.
+#![tactic(auto)]
+
 use decimal::{Natural, Put, Signed};
 use libc::{STDIN_FILENO, STDOUT_FILENO};
 

@@ -1,4 +1,6 @@
 // The desk of the master's memory: open, start, write, tune and abort. Each call decides first, looking only, and then changes.
+#![tactic(auto)]
+
 ghost use Rattle.std.specs.Prelude.{◌+◌, ◌≡◌, ℤ, set};
 ghost use Rattle.transaction.specs.Transaction.{fresh, tuned, written};
 ghost use Rattle.model.specs.State.{place_of, free_place};
@@ -13,28 +15,28 @@ use places::{free_place, place_of};
 use transaction::Transaction;
 use units::{Bounds, Refusal, Stamp, Triple, limits};
 
-#[derive(Drop)]
+#[derive(Clone, Copy)]
 pub enum StartAnswer {
     Started(Stamp),
     Refused(Refusal),
 }
 
 // What write, tune and abort answer.
-#[derive(Drop)]
+#[derive(Clone, Copy)]
 pub enum DoneAnswer {
     Done,
     Refused(Refusal),
 }
 
 // What start would answer, and the first free place.
-#[derive(Drop)]
+#[derive(Clone, Copy)]
 pub struct Starting {
     pub answer: StartAnswer,
     pub place: usize,
 }
 
 // What a call on an open transaction would answer, and that transaction's place.
-#[derive(Drop)]
+#[derive(Clone, Copy)]
 pub struct Doing {
     pub answer: DoneAnswer,
     pub place: usize,

@@ -1,4 +1,6 @@
 // A line of a written history as a record: document 01, "Written histories".
+#![tactic(auto)]
+
 ghost use Rattle.std.specs.Prelude.{◌≡◌};
 ghost use Rattle.history.specs.Line.{ended, tune_at, read_at, write_at, behind_name, line_reply, line_said};
 
@@ -14,7 +16,7 @@ const LAST_KEY: u64 = limits::LAST_KEY as u64;
 const LAST_BOUND: u64 = limits::ANY as u64;
 
 // What stands in the text from a place on.
-#[derive(Drop)]
+#[derive(Clone, Copy)]
 pub enum Line {
     // A record, and the place of the next line.
     Taken(Record, usize),

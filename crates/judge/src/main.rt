@@ -1,5 +1,7 @@
 // Judges one written history from standard input: document 01, "The program reads one history ..". The promises are those of verdict::judge
 // and verdict::show; this file only reads, and writes what they made.
+#![tactic(auto)]
+
 use libc::{STDIN_FILENO, STDOUT_FILENO};
 use units::limits;
 

@@ -1,5 +1,7 @@
 // Judges several histories at the edges of document 01's refusals, each in a room of its own: a head of 16 bytes (the bytes of room, a
 // space, the bytes of history, then spaces up to a newline), then the history, and so on to the end of the input.
+#![tactic(auto)]
+
 use decimal::Natural;
 use libc::{STDIN_FILENO, STDOUT_FILENO};
 use units::limits;

@@ -1,5 +1,7 @@
 // The step of the judge: what one record of a written history, at its line, does to the judge's memory. Any words are taken; a read or a verdict for
 // which there is no room is dropped, which no history of 4,096 lines comes to.
+#![tactic(auto)]
+
 ghost use Rattle.std.specs.Prelude.{◌-◌, ◌%◌, ◌≡◌};
 ghost use Rattle.records.specs.Parts.{name_of, starts};
 ghost use Rattle.records.specs.Ledger.{fresh_row, is_recorded, with_end, changed, begun, line_step};
@@ -14,7 +16,7 @@ use trial::verdict_on;
 use units::{Bounds, Refusal, limits};
 
 // What a record comes to.
-#[derive(Drop)]
+#[derive(Clone, Copy)]
 pub enum Taken {
     Refused(Refusal),
     Went,

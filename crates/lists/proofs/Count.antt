@@ -45,6 +45,7 @@ module _ {A : Type 0} where
     -- and one more where it holds at some place at which the other does not
     pub count-above : {l : List A} {x : A} → Every (λ (x : A). p x ≡ true → q x ≡ true) l → In x l → p x ≡ false → q x ≡ true → count p l < count q l
     unfolding count
+    count-above none i e f = elim i [ ]
     count-above (also {x} {xs} h hs) here e f = rw (e, f) (let r = count_mono hs in omega arith)
     count-above (also {x} {xs} h hs) (below i) e f = go (p x) refl (q x) refl (count-above hs i e f)
       where

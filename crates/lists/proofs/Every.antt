@@ -42,7 +42,7 @@ module _ {A : Type 0} where
   pub every_take : {P : A → Type 0} {l : List A} (n : ℕ) → Every P l → Every P (take n l)
   every_take zero h = none
   every_take (suc n) none = none
-  every_take (suc n) (also p ps) = also p (every_take n ps)
+  every_take {P = P} (suc n) (also {x = x} {xs = xs} p ps) = also p (every_take {P = P} {l = xs} n ps)
 
 module _ {A : Type 0} (p : A → Bool) where
   -- a test that holds nowhere is found at the length

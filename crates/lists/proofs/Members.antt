@@ -11,6 +11,7 @@ use Rattle.lists.proofs.Every.{every_append}
 
 module _ {A : Type 0} where
   pub every_in : {P : A → Type 0} {l : List A} {x : A} → Every P l → In x l → P x
+  every_in none i = elim i [ ]
   every_in (also p ps) here = p
   every_in (also p ps) (below i) = every_in ps i
 

@@ -1,5 +1,7 @@
 // The calls of the master that look at versions, over its lent memory: read, note, distance, commit, the versions that a commit made, the
 // stamp of a key's newest version. Each call that changes something decides first, looking only, and then changes.
+#![tactic(auto)]
+
 ghost use Rattle.std.specs.Prelude.{◌+◌, ◌≡◌, leb, set};
 ghost use Rattle.transaction.specs.Transaction.{recorded, writes_of};
 ghost use Rattle.model.specs.Log.{made_at};
@@ -20,7 +22,7 @@ use transaction::{Mark, Pending};
 use units::{Batch, Certified, Found, Ordinal, Refusal, Rule, Stamp, Version, limits};
 
 // What read and note answer: a version of the log, or the transaction's own pending value.
-#[derive(Drop)]
+#[derive(Clone, Copy)]
 pub enum ReadAnswer {
     Answered(Version),
     Own(i32),
@@ -28,20 +30,20 @@ pub enum ReadAnswer {
 }
 
 // What read or note would answer, and the transaction's place.
-#[derive(Drop)]
+#[derive(Clone, Copy)]
 pub struct Looking {
     pub answer: ReadAnswer,
     pub place: usize,
 }
 
-#[derive(Drop)]
+#[derive(Clone, Copy)]
 pub enum DistanceAnswer {
     Distance(i64),
     Refused(Refusal),
 }
 
 // Committed with its stamp, or aborted by the first broken rule at its place.
-#[derive(Drop)]
+#[derive(Clone, Copy)]
 pub enum CommitAnswer {
     Committed(Stamp),
     Aborted(Rule),
@@ -49,26 +51,26 @@ pub enum CommitAnswer {
 }
 
 // What commit would answer, and the transaction's place.
-#[derive(Drop)]
+#[derive(Clone, Copy)]
 pub struct Ending {
     pub answer: CommitAnswer,
     pub place: usize,
 }
 
-#[derive(Drop)]
+#[derive(Clone, Copy)]
 pub enum MadeAnswer {
     Made,
     Refused(Refusal),
 }
 
 // The versions that a commit made; none where it is refused.
-#[derive(Drop)]
+#[derive(Clone, Copy)]
 pub struct Making {
     pub answer: MadeAnswer,
     pub batch: Batch,
 }
 
-#[derive(Drop)]
+#[derive(Clone, Copy)]
 pub enum NewestAnswer {
     MadeBy(Stamp),
     Refused(Refusal),

@@ -1,4 +1,6 @@
 // The master's whole state in one lent array of words: where each thing lies, and how a transaction is loaded and stored.
+#![tactic(auto)]
+
 ghost use Rattle.std.specs.Prelude.{ℕ, ◌+◌, ◌*◌, ◌≤◌, ◌%◌, not, ◌≡◌, eqb, length, get_or};
 ghost use Rattle.std.proofs.lemmas.List.Edits.{sets};
 ghost use Rattle.std.specs.Int.{w32};

@@ -1,4 +1,6 @@
 // A commit's message: the line that carries its versions to the copies, written and read.
+#![tactic(auto)]
+
 ghost use Rattle.std.specs.Prelude.{◌≤◌, ◌≡◌, length};
 ghost use Rattle.message.specs.Line.{items_of, longest};
 

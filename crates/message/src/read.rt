@@ -8,14 +8,14 @@ use crate::{LETTER, size};
 use decimal::{NEWLINE, Natural, Signed, byte_at, natural_behind_tab, signed_behind_tab};
 use units::{Batch, Item, Ordinal, Stamp, limits};
 
-#[derive(Drop)]
+#[derive(Clone, Copy)]
 pub enum Form {
     Whole,
     Bad,
 }
 
 // What a line says; where it is not of the form, stamp 0 and no versions.
-#[derive(Drop)]
+#[derive(Clone, Copy)]
 pub struct Message {
     pub form: Form,
     pub stamp: Stamp,
@@ -23,7 +23,7 @@ pub struct Message {
 }
 
 // A version of the line, and the place just behind it.
-#[derive(Drop)]
+#[derive(Clone, Copy)]
 enum Piece {
     At(Item, usize),
     Bad,

@@ -10,7 +10,7 @@ use decimal::{NEWLINE, Put, TAB, put_byte, put_natural, put_signed, put_text};
 use units::{Batch, Item, Refusal, Stamp};
 
 // The length of the line, or NoRoom where the lent room is shorter.
-#[derive(Drop)]
+#[derive(Clone, Copy)]
 pub enum MessageAnswer {
     Bytes(usize),
     Refused(Refusal),

@@ -1,4 +1,6 @@
 // The places of the desk in the master's memory: where the open transaction of a name stands, and the first that is free.
+#![tactic(auto)]
+
 ghost use Rattle.std.specs.Prelude.{◌≡◌, ◌&&◌, not, eqb};
 ghost use Rattle.model.specs.State.{place_of, free_place};
 ghost use Rattle.memory.specs.Memory.{places_of};

@@ -1,4 +1,6 @@
 // The message of a commit, written from the master's memory into lent room.
+#![tactic(auto)]
+
 ghost use Rattle.std.specs.Prelude.{◌≡◌};
 ghost use Rattle.memory.specs.Memory.{log_of};
 ghost use Rattle.message.specs.Write.{message_reply};

@@ -1,13 +1,15 @@
 // The judge reads a history line by line from a place that it remembers: document 01, "What form each place takes". A reader holds the lent history
 // and the place. The borrow checker covers no function over such a struct, so next is proved by hand; what is done at the place is
 // history::line_at's, which is covered.
+#![tactic(auto)]
+
 ghost use Rattle.std.specs.Prelude.{◌≡◌};
 ghost use Rattle.history.specs.Line.{line_reply, line_said};
 ghost use Rattle.reader.specs.Reader.{place_after, moved_by};
 
 use history::{Line, line_at};
 
-#[derive(Drop)]
+#[derive(Clone, Copy)]
 pub struct Reader<'a> {
     pub text: &'a [u8],
     pub at: usize,

@@ -1,8 +1,10 @@
 // A written history: its records, a transaction's row, the totals, and what they mean. Types, definitions and theorems; no code.
+#![tactic(auto)]
+
 use units::Bounds;
 
 // A line of a written history. The first number is the transaction's own.
-#[derive(Drop)]
+#[derive(Clone, Copy)]
 pub enum Record {
     Start(u32),
     Tune(u32, Bounds),
@@ -14,7 +16,7 @@ pub enum Record {
 }
 
 // What the judge says of a committed transaction: ok, or the first rule that it broke.
-#[derive(Drop)]
+#[derive(Clone, Copy)]
 pub enum Verdict {
     Ok,
     RC,
@@ -26,7 +28,7 @@ pub enum Verdict {
 
 // What the judge remembers of a transaction: its number, the line of its start, its end (0 while it is open, the line of its commit,
 // or ABORTED), the word of the keys that it wrote, its bounds, and the number of its last recorded read (0 for none).
-#[derive(Drop)]
+#[derive(Clone, Copy)]
 pub struct Row {
     pub name: u32,
     pub start: u32,
@@ -38,20 +40,20 @@ pub struct Row {
 
 // A recorded read: its key, the line of the commit that made the version read (0 for the start version, NOWHERE where the reading
 // rule is broken), and the number of the same transaction's read before it (0 for none). Reads are numbered from 1.
-#[derive(Drop)]
+#[derive(Clone, Copy)]
 pub struct Seen {
     pub key: u32,
     pub line: u32,
     pub before: u32,
 }
 
-#[derive(Drop)]
+#[derive(Clone, Copy)]
 pub struct Judged {
     pub name: u32,
     pub verdict: Verdict,
 }
 
-#[derive(Drop)]
+#[derive(Clone, Copy)]
 pub struct Totals {
     pub started: u32,
     pub committed: u32,

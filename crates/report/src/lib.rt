@@ -1,4 +1,6 @@
 // What the judge prints, as text in lent room: whole, or not at all.
+#![tactic(auto)]
+
 ghost use Rattle.std.specs.Prelude.{◌+◌, ◌≤◌, ◌≡◌, ◌∷◌, ◌++◌, [], reverse, length};
 ghost use Rattle.decimal.specs.Text.{decimal};
 ghost use Rattle.decimal.specs.Write.{put, Puts};
@@ -13,7 +15,7 @@ use records::Totals;
 use units::Refusal;
 
 // The length of the text, or NoRoom where the lent room is shorter.
-#[derive(Drop)]
+#[derive(Clone, Copy)]
 pub enum Written {
     Bytes(usize),
     Refused(Refusal),

@@ -1,4 +1,6 @@
 // The rows of the transactions started, in the judge's memory: the newest of a name, the versions of a key between two lines, and what WC asks.
+#![tactic(auto)]
+
 ghost use Rattle.std.specs.Prelude.{◌<◌, ◌&&◌, cond, ◌≡◌, leb, ltb};
 ghost use Rattle.lists.specs.Lists.{any};
 ghost use Rattle.lists.specs.Lists.{bit as one};
@@ -40,7 +42,7 @@ fn one_if_has(word: u64, key: u32) -> u32
 }
 
 // The versions of a key in two spans of lines.
-#[derive(Drop)]
+#[derive(Clone, Copy)]
 pub struct Counted {
     pub within: u32,
     pub between: u32,

@@ -1,5 +1,7 @@
 // The rules of RVSI for a transaction, against the log of the master's memory: BV, FV, SV, WC in document 01's order, the first
 // that is broken and its place. A count of reads or writes past 16 counts as 16.
+#![tactic(auto)]
+
 ghost use Rattle.std.specs.Prelude.{ℕ, max, ◌≡◌, not, cond, List, ltb, ℤ, pos, neg_ℤ, ◌-ℤ◌, get_or};
 ghost use Rattle.std.specs.Int.Signed.{lt_z, le_z};
 ghost use Rattle.lists.specs.Lists.{find};
@@ -15,7 +17,7 @@ use units::{Certified, Rule, Stamp, limits};
 
 // What SV asks of a recorded read. `Torn` is its question for x against every y at once: a count between two stamps grows
 // with the later one, so the latest stamp read answers for all. `Apart` is its question for y, of the x that it holds.
-#[derive(Drop)]
+#[derive(Clone, Copy)]
 enum Test {
     Torn(Stamp),
     Apart(Mark),

@@ -1,6 +1,8 @@
 // Plays a session: steps from standard input, one a line, and one reply a line on standard output. It holds one master, opened at clock
 // 0, and one fresh copy. docs/SESSION.md has the language. No contract can say what a program reads or writes: the calls that a step makes
 // carry the promises, and this program only reads words and writes answers.
+#![tactic(auto)]
+
 ghost use Rattle.std.specs.Prelude.{◌<◌, ◌≤◌, length};
 
 mod ask;
@@ -25,7 +27,7 @@ const INPUT: usize = 4096;
 const OUTPUT: usize = 8192;
 
 // How far the input is read, how many bytes of a line are kept, and whether they end it.
-#[derive(Drop)]
+#[derive(Clone, Copy)]
 struct Filled {
     at: usize,
     read: usize,
@@ -115,7 +117,7 @@ fn feed_all(
 }
 
 // One read of the input, played; `more` says whether there was any.
-#[derive(Drop)]
+#[derive(Clone, Copy)]
 struct Turn {
     more: bool,
     play: Table,

@@ -6,7 +6,7 @@ use master::ReadAnswer;
 use units::{Refusal, Version};
 
 // A word; a rule's name, or 0 for none; as many of the numbers a, b and c as `count` says; and a value where `signed` is set.
-#[derive(Drop)]
+#[derive(Clone, Copy)]
 pub(crate) struct Reply {
     word: u64,
     rule: u64,

@@ -5,7 +5,7 @@ use crate::word::{
 };
 use decimal::{Natural, Signed};
 
-#[derive(Drop)]
+#[derive(Clone, Copy)]
 pub(crate) enum Step {
     Open(u32),
     Start,
@@ -26,7 +26,7 @@ pub(crate) enum Step {
 }
 
 // The numbers behind a word, up to four, and how many they are; five where something else stands before the line's end.
-#[derive(Drop)]
+#[derive(Clone, Copy)]
 struct Numbers {
     count: u32,
     a: u32,

@@ -12,7 +12,7 @@ use units::Stamp;
 pub(crate) const REPLY: usize = 512;
 
 // The copy, how much of the output is written, and how much of the next line is read.
-#[derive(Drop)]
+#[derive(Clone, Copy)]
 pub(crate) struct Table {
     pub(crate) copy: Copy,
     pub(crate) written: usize,

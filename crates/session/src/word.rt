@@ -51,7 +51,7 @@ pub(crate) const SV: u64 = 0x5356;
 pub(crate) const WC: u64 = 0x5743;
 
 // The first word of a line, 0 where it has more than eight letters, and where it ends.
-#[derive(Drop)]
+#[derive(Clone, Copy)]
 pub(crate) struct Word {
     pub(crate) letters: u64,
     pub(crate) end: usize,

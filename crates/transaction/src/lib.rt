@@ -1,11 +1,13 @@
 // The transaction as a value: tuned, recorded and written, it is handed back.
+#![tactic(auto)]
+
 ghost use Rattle.std.specs.Prelude.{◌≡◌, max, length, get_or};
 ghost use Rattle.transaction.specs.Transaction.{fresh, tuned, ended, recorded, written, wrote_at, pending_of, reads_of, writes_of, no_mark};
 
 use units::{Bounds, Ordinal, Stamp, at_most, limits};
 
 // A recorded read: the version of a key that was read, by its ordinal and its stamp.
-#[derive(Drop)]
+#[derive(Clone, Copy)]
 pub struct Mark {
     pub key: u32,
     pub ordinal: Ordinal,
@@ -13,7 +15,7 @@ pub struct Mark {
 }
 
 // A written key and its pending value.
-#[derive(Drop)]
+#[derive(Clone, Copy)]
 pub struct Write {
     pub key: u32,
     pub value: i32,
@@ -21,7 +23,7 @@ pub struct Write {
 
 // The first `recorded` of the reads, in recording order, and the first `written` of the writes, in the order of first
 // writing, count; the places behind them mean nothing. A transaction that has ended is not live.
-#[derive(Drop)]
+#[derive(Clone, Copy)]
 pub struct Transaction {
     pub name: Stamp,
     pub live: bool,
@@ -33,7 +35,7 @@ pub struct Transaction {
 }
 
 // The transaction's own pending value of a key.
-#[derive(Drop)]
+#[derive(Clone, Copy)]
 pub enum Pending {
     Value(i32),
     Nothing,

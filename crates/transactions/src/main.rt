@@ -1,6 +1,8 @@
 // Plays one transaction over and over on one lent memory: start, two reads, a write, commit. Each line of standard input is a run: how many
 // transactions, and after how many the master is opened anew, with a tab between. Each line of standard output is what a run gave: how many
 // were granted, and a sum over all answers. bench/transactions.py measures it.
+#![tactic(auto)]
+
 use decimal::Natural;
 use desk::{DoneAnswer, StartAnswer};
 use libc::{STDIN_FILENO, STDOUT_FILENO};
@@ -18,7 +20,7 @@ const MOST: u64 = 1000000000;
 const MODULUS: u64 = 4294967296;
 
 // How many transactions of a run were granted, and the sum over its answers.
-#[derive(Drop)]
+#[derive(Clone, Copy)]
 struct Tally {
     granted: u32,
     sum: u64,

@@ -1,4 +1,6 @@
 // The trial of a commit: its recorded reads, walked from its last one back, and the rows of the other transactions, in the judge's memory.
+#![tactic(auto)]
+
 ghost use Rattle.std.specs.Prelude.{ℕ, min, max, ◌≡◌};
 ghost use Rattle.records.specs.Ledger.{chain, verdict_on};
 ghost use Rattle.book.specs.Book.{rows_in, seens_in};

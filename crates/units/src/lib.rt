@@ -1,4 +1,6 @@
 // The things that document 01 counts: stamps, ordinals, versions, bound triples, its limits, its rules and its refusals.
+#![tactic(auto)]
+
 ghost use Rattle.std.specs.Prelude.{min, ◌≡◌, []};
 ghost use Rattle.units.specs.Batch.{batch_of, added};
 ghost use Rattle.units.specs.Bounds.{bounded, triple_reply, snapshot, default, calibration};
@@ -12,15 +14,15 @@ pub use refusal::Refusal;
 pub use rule::{Certified, Rule};
 
 // A moment of the master's one clock; 0 is the load.
-#[derive(Drop)]
+#[derive(Clone, Copy)]
 pub struct Stamp(pub u32);
 
 // The number of a version among those of its key; 0 is the start version.
-#[derive(Drop)]
+#[derive(Clone, Copy)]
 pub struct Ordinal(pub u32);
 
 // A version of a key, as a read answers it.
-#[derive(Drop)]
+#[derive(Clone, Copy)]
 pub struct Version {
     pub ordinal: Ordinal,
     pub stamp: Stamp,
@@ -41,7 +43,7 @@ impl Version {
 }
 
 // A version as a message carries it: the stamp is the message's own.
-#[derive(Drop)]
+#[derive(Clone, Copy)]
 pub struct Item {
     pub key: u8,
     pub ordinal: Ordinal,
@@ -49,7 +51,7 @@ pub struct Item {
 }
 
 // The versions of one commit: the first `count` items, in log order; the places behind them mean nothing.
-#[derive(Drop)]
+#[derive(Clone, Copy)]
 pub struct Batch {
     pub items: [Item; limits::WRITES],
     pub count: usize,
@@ -85,14 +87,14 @@ impl Batch {
 }
 
 // What a look-up answers.
-#[derive(Drop)]
+#[derive(Clone, Copy)]
 pub enum Found {
     At(Version),
     Absent,
 }
 
 // A bound triple: how stale a read may be, how far past the start, how far apart two reads.
-#[derive(Drop)]
+#[derive(Clone, Copy)]
 pub struct Bounds {
     pub k1: u16,
     pub k2: u16,
@@ -100,7 +102,7 @@ pub struct Bounds {
 }
 
 // What the constructor of a bound triple answers.
-#[derive(Drop)]
+#[derive(Clone, Copy)]
 pub enum Triple {
     Taken(Bounds),
     Refused(Refusal),

@@ -1,7 +1,7 @@
 // The rules of RVSI that a commit can break, each with the place or places where it was broken.
 
 // Places are 0, 1, 2: of recorded reads for BV, FV and SV (x, then y), of written keys for WC.
-#[derive(Drop)]
+#[derive(Clone, Copy)]
 pub enum Rule {
     BV(usize),
     FV(usize),
@@ -10,7 +10,7 @@ pub enum Rule {
 }
 
 // What certifying a transaction finds: nothing broken, or the first broken rule.
-#[derive(Drop)]
+#[derive(Clone, Copy)]
 pub enum Certified {
     Whole,
     Broken(Rule),

@@ -1,4 +1,6 @@
 // The judge of written histories: one pass over the lines of a lent text, and its output in lent room, whole or not at all.
+#![tactic(auto)]
+
 ghost use Rattle.std.specs.Prelude.{ℕ, List, reverse, ◌≡◌};
 ghost use Rattle.records.specs.Totals.{no_totals};
 ghost use Rattle.book.specs.Book.{judged_in};
@@ -20,21 +22,21 @@ mod print;
 pub use print::show;
 
 // The length of the output, or a refusal and its line (0 for 12 and 17).
-#[derive(Drop)]
+#[derive(Clone, Copy)]
 pub enum Answer {
     Bytes(usize),
     Refused(Refusal, u32),
 }
 
 // What the pass over the lines comes to: the totals, or a refusal and its line. The verdicts stand in the memory.
-#[derive(Drop)]
+#[derive(Clone, Copy)]
 enum Ran {
     Done(Totals),
     Refused(Refusal, u32),
 }
 
 // What a line comes to: a record, the history's end, or a refusal and its line.
-#[derive(Drop)]
+#[derive(Clone, Copy)]
 enum Came {
     Record(Record),
     End,

@@ -1,4 +1,6 @@
 // The log of committed versions in the master's memory: the newest version of a key, and a commit's own appended.
+#![tactic(auto)]
+
 ghost use Rattle.std.specs.Prelude.{◌≡◌, ◌<◌};
 ghost use Rattle.transaction.specs.Transaction.{writes_of};
 ghost use Rattle.model.specs.Log.{version_of, newest, look_up, made_at};

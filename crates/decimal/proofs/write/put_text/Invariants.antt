@@ -1,0 +1,15 @@
+-- `decimal::write::put_text` meets its contract. The invariant: the bytes passed stand at their place.
+use Prim.Native.Nat.{◌+◌, ◌-◌, ◌≤◌}
+use native.Mathlib.Omega.{arith}
+use mathlib.Core.Path.{◌≡◌, refl}
+use lib.ListN.{length}
+use lib.Seq.{paste, paste-zero}
+use Rattle.decimal.proofs.Writing.{roomy, refuses, copy-length, copy_more, copy_all}
+use borrow.Author.Rules.{rules}
+use Rattle.decimal.proofs.write.put_text.Given as goal
+
+abbrev pub invariant-loop-i : goal.invariant-loop-i
+invariant-loop-i l = (l.i ≤ length l.text) × ((l.at + length l.text ≤ length l.initial.buf) × (l.buf ≡ paste l.initial.buf l.at l.text l.i))
+
+abbrev pub decreases-loop-i : goal.decreases-loop-i
+decreases-loop-i l = length l.text - l.i

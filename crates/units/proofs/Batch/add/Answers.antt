@@ -1,0 +1,13 @@
+-- `add` meets its contract: there is room for one item more, or not.
+use borrow.Author.Tests.{lt-ltb, le-ltb}
+use Rattle.units.specs.Batch.{added}
+use borrow.Author.Rules.{rules}
+use Rattle.units.proofs.Batch.add.Goals as goal
+
+pub returns-then-n-lt-WRITES : goal.returns-then-n-lt-WRITES
+unfolding added
+returns-then-n-lt-WRITES c = simp (lt-ltb _ _ c.if-n-lt-WRITES.true)
+
+pub returns : goal.returns
+unfolding added
+returns c = simp (le-ltb _ _ c.if-n-lt-WRITES.false)
