@@ -97,8 +97,12 @@ pub record Moves (h : History) (e : Record) (q : Row) : Type 0 where
 -- what the lines say of a transaction that none of them names is what no lines say
 pub unsaid : {B : Type 0} (F : History → ℕ → B) → ((e : Record) (h : History) (u : ℕ) → name_of e ≢ u → F (e ∷ h) u ≡ F h u) → {h : History} (t : ℕ)
     → Every (λ (e : Record). name_of e ≢ t) h → F h t ≡ F [] t
-unsaid F others t none = refl
-unsaid F others t (also {x = e} {xs = h} n ns) = others e h t n ∙ unsaid F others t ns
+unsaid F others t n = along F others t n
+  where
+    along : {B : Type 0} (F : History → ℕ → B) → ((e : Record) (h : History) (u : ℕ) → name_of e ≢ u → F (e ∷ h) u ≡ F h u) → (t : ℕ) → {h : History}
+        → Every (λ (e : Record). name_of e ≢ t) h → F h t ≡ F [] t
+    along F others t none = refl
+    along F others t (also {x = e} {xs = h} n ns) = others e h t n ∙ along F others t ns
 
 pub silent_any : (p : ℕ → Record → Bool) → ((t : ℕ) (e : Record) → name_of e ≢ t → p t e ≡ false) → {h : History} {t : ℕ} → Every (λ (e : Record). name_of e ≢ t) h
     → any (p t) h ≡ false
