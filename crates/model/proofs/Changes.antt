@@ -4,7 +4,7 @@ use Prim.Native.Nat.{ℕ, suc, ◌≤◌, ◌<◌}
 use native.Mathlib.Omega.{arith}
 use mathlib.Core.Path.{◌≡◌, refl, sym, ◌∙◌, ap, subst}
 use mathlib.Core.Bool.{Bool, true, false, cond, not, ◌&&◌, true≢false, false≢true}
-use mathlib.Core.List.{List, ◌∷◌}
+use mathlib.Core.List.{List, [], ◌∷◌}
 use lib.IntN.{ℤ}
 use lib.ListN.{length, get_or, length-set}
 use lib.Seq.{get_or-set_same, get_or-set_other}
@@ -239,6 +239,7 @@ module _ {opening : ℕ} (s : State) (g : Good opening s) where
 -- the write of a key among those written, each key once
 sole_write : (w : pending.Write) (ws : List pending.Write) → Distinct (keys_of ws) → In w ws → (find (is_key w.key) ws < length ws) × (get_or ws (find (is_key w.key) ws) no_write ≡ w)
 unfolding find
+sole_write w [] d i = elim i [ ]
 sole_write w (y ∷ ws) d here = rw (eq-eqb w.key w.key refl) (omega arith, refl)
 sole_write w (y ∷ ws) (apart h d) (below i) =
     rw (ne_eqb y.key w.key (λ q. every_in h (in_map (λ (x : pending.Write). x.key) i) (sym q)))

@@ -107,6 +107,7 @@ module _ {opening : ℕ} where
   -- "An ordinal numbers the versions of one key": a version's ordinal is the count up to its stamp, O_x(c_j)
   pub ordinal_counts : {clock : ℕ} {log : List Entry} {e : Entry} → Chain opening clock log → In e log → up_to log e.key e.stamp ≡ e.ordinal
   unfolding up_to count
+  ordinal_counts {e = e} (base _) i = elim i [ ]
   ordinal_counts {e = e} (link {es = es} a b k o s c) here =
       rw (eq-eqb e.key e.key refl, le-leb e.stamp e.stamp (omega arith), o) (ap suc (up_to_all e.key e.stamp (chain-below c (omega arith))))
   ordinal_counts {e = e} (link {e = f} {es = es} a b k o s c) (below i) = up_to_skip f es e.key e.stamp (λ q. every_in s i (sym q)) ∙ ordinal_counts c i
@@ -117,7 +118,7 @@ module _ {opening : ℕ} where
   load_counts c x = count_none _ (every_map (λ (e : Entry) h. rw (lt-leb e.stamp 0 (omega arith)) (and-false (of_key x e))) (chain_stamps c))
 
   -- key and stamp name one version
-  pub same-stamp : {clock : ℕ} {log : List Entry} {e f : Entry} → Chain opening clock log → In e log → In f log → e.key ≡ f.key → e.stamp ≡ f.stamp → e ≡ f
+  pub same-stamp : {e f : Entry} {clock : ℕ} {log : List Entry} → Chain opening clock log → In e log → In f log → e.key ≡ f.key → e.stamp ≡ f.stamp → e ≡ f
   same-stamp c here here k s = refl
   same-stamp (link a b k o s c) here (below j) q r = absurd (let h = every_in s j (sym q) in omega arith)
   same-stamp (link a b k o s c) (below i) here q r = absurd (let h = every_in s i q in omega arith)

@@ -45,7 +45,7 @@ unfolding installed made_at
 made_other log stamp t [] h = refl
 made_other log stamp t (w ∷ ws) h = made_other (next log stamp w ∷ log) stamp t ws h ∙ rw (ne_eqb stamp t (λ e. h (sym e)))
 
-pub made_none : {log : List Entry} (t : ℕ) → Every (λ (e : Entry). e.stamp ≢ t) log → made_at log t ≡ []
+pub made_none : (t : ℕ) {log : List Entry} → Every (λ (e : Entry). e.stamp ≢ t) log → made_at log t ≡ []
 unfolding made_at
 made_none t none = refl
 made_none t (also {x = e} h hs) = rw (ne_eqb e.stamp t h) (made_none t hs)
@@ -97,7 +97,7 @@ made_in (f ∷ fs) t e i = go (eqb f.stamp t) refl (made_in fs t e) i
         (in_append (made_at fs t) (f ∷ []) i)
     go false q r i = let k = r i in (below k.0, k.1)
 
-pub in_made : {log : List Entry} {e : Entry} → In e log → In e (made_at log e.stamp)
+pub in_made : {e : Entry} {log : List Entry} → In e log → In e (made_at log e.stamp)
 unfolding made_at
 in_made {e = e} (here {xs = es}) = rw (eq-eqb e.stamp e.stamp refl) (in_right (made_at es e.stamp) here)
 in_made {e = e} (below {y = f} {xs = es} i) = go (eqb f.stamp e.stamp) (in_made i)

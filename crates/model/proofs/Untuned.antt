@@ -131,10 +131,10 @@ module _ {opening : ℕ} (s : State) (g : Good opening s) (n : ℕ) (b : ByDefau
       order_by Kept _ _ _ (λ h. b) (λ key.
       order-end Kept _ b)
 
-kept_on : {opening : ℕ} (s : State) → Good opening s → (n : ℕ) → ByDefault n s → {cs : List Call} → Every (NoTuning n) cs → ByDefault n (reached s cs)
+kept_on : {opening : ℕ} (n : ℕ) (s : State) → Good opening s → ByDefault n s → {cs : List Call} → Every (NoTuning n) cs → ByDefault n (reached s cs)
 unfolding reached
-kept_on s g n b none = b
-kept_on s g n b (also {x = c} h hs) = kept_on (step s c).state (good_step s g c) n (kept_step s g n b c h) hs
+kept_on n s g b none = b
+kept_on n s g b (also {x = c} h hs) = kept_on n (step s c).state (good_step s g c) (kept_step s g n b c h) hs
 
 -- a transaction that has just started
 just_started : {opening : ℕ} (s : State) → Good opening s → (n : ℕ) → (step s Start).reply ≡ started n → ByDefault n (step s Start).state
@@ -155,5 +155,5 @@ pub untuned : (opening : ℕ) → opening ≤ 4294967295 → (before after : Lis
 unfolding reached
 untuned opening h before after n i e t =
     rw (reached-append (opened opening) before (Start ∷ after))
-    (kept_on (step (reached (opened opening) before) Start).state (good_step (reached (opened opening) before) (good_reached opening h before) Start) n
+    (kept_on n (step (reached (opened opening) before) Start).state (good_step (reached (opened opening) before) (good_reached opening h before) Start)
     (just_started (reached (opened opening) before) (good_reached opening h before) n e) t i)
