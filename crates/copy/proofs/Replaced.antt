@@ -4,7 +4,7 @@ use Prim.Native.Nat.{ℕ, ◌<◌}
 use native.Mathlib.Omega.{arith}
 use mathlib.Core.Path.{◌≡◌, refl, sym, ap, ◌∙◌, subst}
 use mathlib.Core.Logic.{◌≢◌}
-use mathlib.Core.List.{List, ◌∷◌, map}
+use mathlib.Core.List.{List, [], ◌∷◌, map}
 use lib.ListN.{length}
 use lib.Seq.{get_or-set_same}
 use Rattle.lists.specs.Lists.{Every, none, also}
@@ -20,17 +20,18 @@ use Rattle.copy.specs.declared.Copy.{Copy}
 use Rattle.copy.proofs.Steps.{item-newer, item-older}
 use Rattle.copy.proofs.Newest.{item-length, item-other}
 
-items_other : (c : Copy) (stamp k : ℕ) {items : List Item} → Every (λ (i : Item). i.key ≢ k) items → held (take_items c stamp items) k ≡ held c k
+items_other : (stamp k : ℕ) (c : Copy) {items : List Item} → Every (λ (i : Item). i.key ≢ k) items → held (take_items c stamp items) k ≡ held c k
 unfolding take_items
-items_other c stamp k none = refl
-items_other c stamp k (also {x = i} n ns) = items_other (take_item c stamp i) stamp k ns ∙ item-other c stamp i k n
+items_other stamp k c none = refl
+items_other stamp k c (also {x = i} n ns) = items_other stamp k (take_item c stamp i) ns ∙ item-other c stamp i k n
 
 items_replace : (c : Copy) (stamp : ℕ) (items : List Item) → Distinct (map (λ (i : Item). i.key) items) → (i : Item) → In i items → i.key < length c.versions
     → Replaces c (take_items c stamp items) stamp i
 unfolding take_items
+items_replace c stamp [] d i m l = elim m [ ]
 items_replace c stamp (j ∷ is) (apart n d) i here l =
     let rest : held (take_items (take_item c stamp i) stamp is) i.key ≡ held (take_item c stamp i) i.key =
-    items_other (take_item c stamp i) stamp i.key (image_every (λ (k : ℕ). k ≢ i.key) (λ (j : Item). j.key) is n) in
+    items_other stamp i.key (take_item c stamp i) (image_every (λ (k : ℕ). k ≢ i.key) (λ (j : Item). j.key) is n) in
     record {
       newer = λ h. rest ∙ ap (λ (x : Copy). held x i.key) (item-newer c stamp i h) ∙ get_or-set_same c.versions i.key (carried_version stamp i) start_version l;
       older = λ h. rest ∙ ap (λ (x : Copy). held x i.key) (item-older c stamp i h);
@@ -61,4 +62,4 @@ module _ (c : Copy) (full : length c.versions ≡ 64) (stamp : ℕ) (items : Lis
 
   -- a key that it does not name stays
   pub line-others : (k : ℕ) → Every (λ (i : Item). i.key ≢ k) items → held (take_line c line).copy k ≡ held c k
-  line-others k n = ap (λ (s : TakeStep). held s.copy k) taken_is ∙ items_other c stamp k n
+  line-others k n = ap (λ (s : TakeStep). held s.copy k) taken_is ∙ items_other stamp k c n

@@ -1,0 +1,6 @@
+-- `fresh` meets its contract: the start version at every place.
+use borrow.Author.Rules.{rules}
+use Rattle.copy.proofs.Copy.fresh.Goals as goal
+
+pub returns : goal.returns
+returns c = rw c.start.ensures

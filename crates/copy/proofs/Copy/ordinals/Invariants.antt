@@ -1,0 +1,16 @@
+-- `ordinals` meets its contract. The invariant: those copied so far are the first of all.
+use Prim.Native.Nat.{◌-◌, ◌≤◌}
+use native.Mathlib.Omega.{arith}
+use mathlib.Core.Path.{◌≡◌, refl}
+use lib.ListN.{length, take, length-set}
+use Rattle.lists.proofs.Length.{length_mapped}
+use Rattle.copy.specs.Copy.{ordinals_of}
+use Rattle.copy.proofs.Steps.{ordinals-next, ordinals_all}
+use borrow.Author.Rules.{rules}
+use Rattle.copy.proofs.Copy.ordinals.Given as goal
+
+abbrev pub invariant-loop-i : goal.invariant-loop-i
+invariant-loop-i l = (l.i ≤ 64) × ((length l.all ≡ 64) × (take l.i l.all ≡ take l.i (ordinals_of l.self)))
+
+abbrev pub decreases-loop-i : goal.decreases-loop-i
+decreases-loop-i l = 64 - l.i

@@ -1,0 +1,15 @@
+use Prim.Native.Nat.{ℕ, ◌+◌, ◌*◌, ◌-◌, ◌<◌, ◌≤◌}
+use native.Mathlib.Omega.{arith}
+use mathlib.Core.Path.{◌≡◌, ◌∙◌}
+use lib.ListN.{length, get_or, length-set}
+use Rattle.memory.specs.Memory.{mark_at}
+use Rattle.memory.proofs.Tables.{is_tab, filled}
+use Rattle.transaction.specs.Transaction.{no_mark}
+use borrow.Author.Rules.{rules}
+use Rattle.memory.proofs.load_reads.Given as goal
+
+abbrev pub invariant-loop-i : goal.invariant-loop-i
+invariant-loop-i l = (l.i ≤ 16) × ((length l.reads ≡ 16) × ((j : ℕ) → j < l.i → get_or l.reads j no_mark ≡ mark_at l.memory (l.at + 3 * j)))
+
+abbrev pub decreases-loop-i : goal.decreases-loop-i
+decreases-loop-i l = 16 - l.i
