@@ -1,0 +1,23 @@
+use Prim.Native.Nat.{◌+◌, ◌-◌, ◌≤◌}
+use native.Mathlib.Omega.{arith}
+use mathlib.Core.Path.{◌≡◌, ◌∙◌}
+use lib.ListN.{drop}
+use Rattle.lists.specs.Lists.{find}
+use Rattle.lists.proofs.Find.{search_over, search_hit, search_miss}
+use Rattle.memory.specs.Memory.{places_of}
+use Rattle.memory.proofs.Laws.{places_length}
+use Rattle.model.specs.State.{free_place, no_transaction}
+use Rattle.places.proofs.Laws.{free-at}
+use Rattle.transaction.specs.declared.Transaction.{Transaction}
+use mathlib.Core.Bool.{Bool, not}
+use borrow.Author.Rules.{rules}
+use Rattle.places.proofs.free_place.Given as goal
+
+abbrev is_free : Transaction → Bool
+is_free t = not t.live
+
+abbrev pub invariant-loop-i : goal.invariant-loop-i
+invariant-loop-i l = (l.i ≤ 32) × (free_place (places_of l.memory) ≡ l.i + find is_free (drop l.i (places_of l.memory)))
+
+abbrev pub decreases-loop-i : goal.decreases-loop-i
+decreases-loop-i l = 32 - l.i

@@ -1,0 +1,19 @@
+-- `first` meets its contract: what the reads not yet asked answer is the whole answer.
+use Prim.Native.Nat.{◌+◌, ◌-◌}
+use native.Mathlib.Omega.{arith}
+use mathlib.Core.Path.{◌≡◌, ◌∙◌, sym, ap}
+use lib.ListN.{drop}
+use lib.ListN as L
+use borrow.Author.Rules.{rules}
+use Rattle.lists.specs.Lists.{find}
+use Rattle.lists.proofs.Find.{search_over, search_hit, search_miss}
+use Rattle.memory.specs.Memory.{log_of}
+use Rattle.transaction.specs.Transaction.{reads_of, no_mark}
+use Rattle.rules.specs.Tests.{fails}
+use Rattle.rules.proofs.first.Given as goal
+
+abbrev pub invariant-loop-i : goal.invariant-loop-i
+invariant-loop-i l = (l.end ≡ L.length (reads_of l.t)) × (find (fails l.test (log_of l.memory) l.t) (reads_of l.t) ≡ l.i + find (fails l.test (log_of l.memory) l.t) (drop l.i (reads_of l.t)))
+
+abbrev pub decreases-loop-i : goal.decreases-loop-i
+decreases-loop-i l = l.end - l.i

@@ -1,0 +1,33 @@
+-- `made_at` meets its contract: the batch has the commit's versions among the places passed.
+use Prim.Native.Nat.{◌-◌, ◌≤◌}
+use native.Mathlib.Omega.{arith}
+use mathlib.Core.Path.{◌≡◌, ◌∙◌}
+use mathlib.Core.Logic.{⊎_elim}
+use borrow.Author.Rules.{rules}
+use Rattle.model.specs.Log.{made_at}
+use Rattle.memory.specs.Memory.{entries, length_of}
+use Rattle.versions.specs.Batch.{batch_of}
+use Rattle.versions.proofs.Gathering.{made_hit, made_miss}
+use Rattle.versions.proofs.made_at.Goals as goal
+
+pub loop-i-init : goal.loop-i-init
+unfolding made_at entries batch_of
+loop-i-init c = (omega arith, (c.length_of-end.ensures, c.empty-batch.ensures))
+
+pub loop-i-preserved : goal.loop-i-preserved
+loop-i-preserved c =
+    let z = c.loop-i.invariant in (
+      omega arith,
+      (
+        z.1.0,
+        ⊎_elim
+            (λ w. made_hit c.args.memory.now _ _ _ z.1.1 _ _ w.0.taken w.1.ensures (w.3 ∙ w.2.ensures))
+            (λ w. w.1 ∙ made_miss c.args.memory.now _ _ _ z.1.1 w.0.left)
+            c.if-memory-i.branch,
+      ),
+    )
+
+pub returns : goal.returns
+returns c =
+    let e : c.loop-i.i ≡ length_of c.args.memory.now = omega arith in
+    c.loop-i.invariant.1.1 ∙ rw e
