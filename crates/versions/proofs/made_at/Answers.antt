@@ -2,13 +2,13 @@
 use Prim.Native.Nat.{◌-◌, ◌≤◌}
 use native.Mathlib.Omega.{arith}
 use mathlib.Core.Path.{◌≡◌, ◌∙◌}
-use mathlib.Core.Logic.{⊎_elim}
 use borrow.Author.Rules.{rules}
 use Rattle.model.specs.Log.{made_at}
 use Rattle.memory.specs.Memory.{entries, length_of}
 use Rattle.versions.specs.Batch.{batch_of}
 use Rattle.versions.proofs.Gathering.{made_hit, made_miss}
 use Rattle.versions.proofs.made_at.Goals as goal
+use Rattle.versions.proofs.made_at.Goals.{then-memory-i, else-memory-i}
 
 pub loop-i-init : goal.loop-i-init
 unfolding made_at entries batch_of
@@ -20,10 +20,10 @@ loop-i-preserved c =
       omega arith,
       (
         z.1.0,
-        ⊎_elim
-            (λ w. made_hit c.args.memory.now _ _ _ z.1.1 _ _ w.0.taken w.1.ensures (w.3 ∙ w.2.ensures))
-            (λ w. w.1 ∙ made_miss c.args.memory.now _ _ _ z.1.1 w.0.left)
-            c.if-memory-i.branch,
+        elim c.if-memory-i.branch [
+          | then-memory-i w ↦ made_hit c.args.memory.now _ _ _ z.1.1 _ _ w.if-memory-i.true w.item_at.ensures (w.batch-is ∙ w.add-batch.ensures)
+          | else-memory-i w ↦ w.batch-is ∙ made_miss c.args.memory.now _ _ _ z.1.1 w.if-memory-i.false
+        ],
       ),
     )
 

@@ -1,0 +1,15 @@
+-- `clear` meets its contract: place by place a transaction that has ended.
+use borrow.Author.Rules.{rules}
+use Prim.Native.Nat.{◌-◌, ◌≤◌}
+use native.Mathlib.Omega.{arith}
+use mathlib.Core.Path.{◌≡◌, refl, ◌∙◌, ap}
+use Rattle.transaction.specs.Transaction.{ended}
+use Rattle.words.specs.After.{cleared}
+use Rattle.desk.proofs.Laws.{clear_step}
+use Rattle.desk.proofs.clear.Given as goal
+
+abbrev pub invariant-loop-i : goal.invariant-loop-i
+invariant-loop-i l = (l.i ≤ 32) × (l.memory ≡ cleared l.initial.memory l.i)
+
+abbrev pub decreases-loop-i : goal.decreases-loop-i
+decreases-loop-i l = 32 - l.i
