@@ -1,0 +1,6 @@
+-- `change_read` meets its contract: loaded, recorded, stored.
+use borrow.Author.Rules.{rules}
+use Rattle.master.proofs.change_read.Goals as goal
+
+pub returns : goal.returns
+returns c = rw (c.store.ensures, c.before.«record».ensures, c.load-t.ensures)
