@@ -22,12 +22,10 @@ bit_if-word-requires c = omega (arith, c.loop-k-test.true)
 
 -- the test, the key, and the word after the turn
 abbrev test : After-bit_if-word → ℕ → Bool
-test c =
-    let a = c.before.before.before.before.before.before.args in
-    is_behind (log_of a.memory.now) a.held
+test c = is_behind (log_of c.args.memory.now) c.args.held
 
 abbrev place : After-bit_if-word → ℕ
-place c = c.before.before.before.before.before.loop.k
+place c = c.loop-k.k
 
 sum : (c : After-bit_if-word) → c.loop-k.word + c.bit_if-word.result ≡ word_of (test c) (place c + 1)
 sum c =
