@@ -18,8 +18,8 @@ def build():
 
 def prove(name):
     """Proves and builds one program, for a measure that needs no reference."""
-    if subprocess.run(["rt", "check", name], cwd=top, stdout=sys.stderr).returncode:
-        sys.exit("bench: nothing is measured, since rt check %s has failed" % name)
+    if subprocess.run(["rt", "run"], cwd=os.path.join(top, "crates", name), stdin=subprocess.DEVNULL, stdout=sys.stderr).returncode:
+        sys.exit("bench: nothing is measured, since rt run has failed in crates/%s" % name)
 
 
 def compiled(name, libraries, missing):
@@ -36,7 +36,7 @@ def compiled(name, libraries, missing):
 
 
 def proved(name):
-    return [os.path.join(top, "target/bin", name)]
+    return [os.path.join(top, "crates", name, "out", name)]
 
 
 def reference(name):

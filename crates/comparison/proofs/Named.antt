@@ -14,7 +14,7 @@ use Rattle.lists.specs.Members.{In, here, below, Distinct, empty, apart}
 use Rattle.lists.proofs.Members.{in_nothing, in_one, in_append, in_every}
 use Rattle.units.specs.declared.Ordinal.{Ordinal}
 use Rattle.model.specs.Log.{Entry}
-use Rattle.comparison.specs.Comparison.{CompareReply, behind, refused, newest_ordinal, held_ordinal, is_ahead, is_behind, some_key, word_of, from_word, compared, how_many, lowest}
+use Rattle.comparison.specs.Comparison.{CompareReply, refused, newest_ordinal, held_ordinal, is_ahead, is_behind, some_key, word_of, from_word, compared, how_many, lowest}
 use Rattle.comparison.specs.Named.{SomeAhead, Lags, Named, HowMany, Lowest, first, nowhere, Tells, Compares, ahead, tells}
 use Rattle.comparison.proofs.Words.{digit, some_hit, word_digit, word_ones, word_lowest, lowest_is}
 

@@ -1,7 +1,7 @@
 -- M-100: a transaction that was started and has not been tuned since has (2, 0, 1), in every session.
 use Prim.Native.Nat.{ℕ, suc, ◌≤◌, ◌<◌}
 use mathlib.Core.Path.{◌≡◌, refl, sym, ◌∙◌, ap}
-use mathlib.Core.Bool.{Bool, true, false, cond, not, ◌&&◌}
+use mathlib.Core.Bool.{Bool, true, false, cond}
 use mathlib.Core.List.{List, [], ◌∷◌, ◌++◌}
 use lib.Dec.{ltb}
 use lib.IntN.{ℤ}

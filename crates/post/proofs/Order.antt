@@ -8,7 +8,6 @@ use mathlib.Core.Logic.{◌↔◌, ◌≢◌}
 use mathlib.Core.List.{List, [], ◌∷◌, ◌++◌}
 use lib.ListN.{length, drop}
 use borrow.Author.Tests.{eq-eqb, ne_eqb}
-use Rattle.lists.specs.Lists.{Every}
 use Rattle.lists.specs.Members.{In, here}
 use Rattle.lists.proofs.Members.{in_every, every_in, in_nothing}
 use Rattle.model.specs.Log.{Entry, made_at}

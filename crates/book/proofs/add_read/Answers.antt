@@ -1,6 +1,5 @@
 -- `add_read` meets its contract: there is room, or nothing is stored.
 use Rattle.book.proofs.Exits.{read-room, read-full}
-use borrow.Author.Rules.{rules}
 use Rattle.book.proofs.add_read.Goals as goal
 
 pub returns-then-n-lt-LINES : goal.returns-then-n-lt-LINES

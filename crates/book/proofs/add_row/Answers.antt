@@ -1,6 +1,5 @@
 -- `add_row` meets its contract: there is room, or nothing is stored.
 use Rattle.book.proofs.Exits.{row_room, row-full}
-use borrow.Author.Rules.{rules}
 use Rattle.book.proofs.add_row.Goals as goal
 
 pub returns-then-n-lt-TRANSACTIONS : goal.returns-then-n-lt-TRANSACTIONS

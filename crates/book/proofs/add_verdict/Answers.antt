@@ -1,6 +1,5 @@
 -- `add_verdict` meets its contract: there is room, or nothing is stored.
 use Rattle.book.proofs.Exits.{verdict_room, verdict_full}
-use borrow.Author.Rules.{rules}
 use Rattle.book.proofs.add_verdict.Goals as goal
 
 pub returns-then-n-lt-TRANSACTIONS : goal.returns-then-n-lt-TRANSACTIONS

@@ -1,7 +1,6 @@
 -- `load_row` meets its contract: the number is 0, that of a place, or past the last.
 use native.Mathlib.Omega.{arith}
 use Rattle.book.proofs.Exits.{load-none, load-bounds, load_past}
-use borrow.Author.Rules.{rules}
 use Rattle.book.proofs.load_row.Goals as goal
 
 pub returns-then-number-eq0 : goal.returns-then-number-eq0

@@ -1,7 +1,6 @@
 -- `store_row` meets its contract: the place is one of the 512, or nothing is stored.
 use mathlib.Core.Path.{sym}
 use Rattle.book.proofs.Exits.{store_at, store_past}
-use borrow.Author.Rules.{rules}
 use Rattle.book.proofs.store_row.Goals as goal
 
 pub returns-then-place-lt-TRANSACTIONS : goal.returns-then-place-lt-TRANSACTIONS

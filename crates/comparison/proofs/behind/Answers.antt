@@ -1,12 +1,11 @@
 -- `behind` meets its contract: the word of the keys looked at so far.
-use Prim.Native.Nat.{ℕ, ◌+◌, ◌-◌, ◌^◌, ◌≤◌}
+use Prim.Native.Nat.{ℕ, ◌+◌, ◌^◌}
 use native.Mathlib.Omega.{arith}
 use native.Mathlib.Nat.{lt_of_lt_of_le}
 use mathlib.Core.Path.{◌≡◌, refl, ◌∙◌, ap}
 use mathlib.Core.Bool.{Bool, cond}
 use lib.Dec.{ltb}
 use lib.Pow.{pow_mono}
-use borrow.Author.Rules.{rules}
 use Rattle.memory.specs.Memory.{log_of}
 use Rattle.comparison.specs.Comparison.{held_ordinal, is_behind, word_of}
 use Rattle.comparison.proofs.Words.{word_lt, word_more}

@@ -1,6 +1,5 @@
 -- `compare` meets its contract: refusal 11, or the word, its ones and its trailing zeros.
 use Rattle.comparison.specs.Comparison.{compared}
-use borrow.Author.Rules.{rules}
 use Rattle.comparison.proofs.compare.Goals as goal
 
 pub returns-then-some_ahead : goal.returns-then-some_ahead

@@ -1,7 +1,6 @@
 -- `newest_ordinal` meets its contract.
 use mathlib.Core.Path.{ap}
 use Rattle.units.specs.declared.Version.{Version}
-use borrow.Author.Rules.{rules}
 use Rattle.comparison.proofs.newest_ordinal.Goals as goal
 
 pub returns : goal.returns

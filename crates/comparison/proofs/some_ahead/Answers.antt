@@ -1,9 +1,6 @@
 -- `some_ahead` meets its contract: no key looked at so far is ahead.
-use Prim.Native.Nat.{◌-◌, ◌≤◌}
 use native.Mathlib.Omega.{arith}
 use mathlib.Core.Path.{◌≡◌, refl, sym}
-use mathlib.Core.Bool.{false}
-use borrow.Author.Rules.{rules}
 use borrow.Author.Tests.{lt-ltb, le-ltb}
 use Rattle.memory.specs.Memory.{log_of}
 use Rattle.comparison.specs.Comparison.{is_ahead, some_key}

@@ -1,13 +1,9 @@
 -- `some_ahead` meets its contract: no key looked at so far is ahead.
 use Prim.Native.Nat.{◌-◌, ◌≤◌}
-use native.Mathlib.Omega.{arith}
-use mathlib.Core.Path.{◌≡◌, refl, sym}
+use mathlib.Core.Path.{◌≡◌}
 use mathlib.Core.Bool.{false}
-use borrow.Author.Rules.{rules}
-use borrow.Author.Tests.{lt-ltb, le-ltb}
 use Rattle.memory.specs.Memory.{log_of}
 use Rattle.comparison.specs.Comparison.{is_ahead, some_key}
-use Rattle.comparison.proofs.Words.{some-none, some_hit}
 use Rattle.comparison.proofs.some_ahead.Given as goal
 
 abbrev pub invariant-loop-j : goal.invariant-loop-j

@@ -1,5 +1,4 @@
 -- `changed_after` meets its contract: a key with more versions than up to a stamp has one after it.
-use borrow.Author.Rules.{rules}
 use Rattle.counts.proofs.Laws.{changed}
 use Rattle.counts.proofs.changed_after.Goals as goal
 

@@ -1,5 +1,4 @@
 -- `count_between` meets its contract: of stamps in order by the count of what lies between them, of others nothing does.
-use borrow.Author.Rules.{rules}
 use mathlib.Core.Path.{◌∙◌}
 use Rattle.counts.proofs.Laws.{strictly, nothing-between}
 use Rattle.counts.proofs.count_between.Goals as goal

@@ -1,5 +1,4 @@
 -- `count_up_to` meets its contract: the count has no lower end.
-use borrow.Author.Rules.{rules}
 use mathlib.Core.Path.{◌∙◌}
 use Rattle.counts.proofs.Laws.{up-to}
 use Rattle.counts.proofs.count_up_to.Goals as goal

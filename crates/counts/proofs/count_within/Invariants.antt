@@ -1,12 +1,7 @@
 use Prim.Native.Nat.{◌≤◌, ◌-◌}
-use native.Mathlib.Numerals.{add-one}
-use native.Mathlib.Omega.{arith}
-use mathlib.Core.Path.{◌≡◌, refl}
-use borrow.Author.Rules.{rules}
-use Rattle.lists.specs.Lists.{count}
+use mathlib.Core.Path.{◌≡◌}
 use Rattle.memory.specs.Memory.{entries, length_of}
 use Rattle.counts.specs.Within.{within}
-use Rattle.lists.proofs.Count.{bit_le, count-more}
 use Rattle.counts.proofs.count_within.Given as goal
 
 abbrev pub invariant-loop-i : goal.invariant-loop-i

@@ -2,7 +2,6 @@
 use mathlib.Core.Path.{ap, sym, ◌∙◌}
 use Rattle.desk.specs.Desk.{done_reply}
 use Rattle.desk.proofs.Laws.{abort-after, refused-stays}
-use borrow.Author.Rules.{rules}
 use Rattle.desk.proofs.abort.Goals as goal
 
 -- src/lib.rt:266:1

@@ -1,4 +1,3 @@
-use borrow.Author.Rules.{rules}
 use Rattle.desk.proofs.change_end.Goals as goal
 
 -- src/lib.rt:163:1

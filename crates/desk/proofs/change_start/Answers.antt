@@ -1,4 +1,3 @@
-use borrow.Author.Rules.{rules}
 use Rattle.desk.proofs.change_start.Goals as goal
 
 -- src/lib.rt:114:1

@@ -1,5 +1,4 @@
 -- `change_tune` meets its contract: loaded, tuned, stored.
-use borrow.Author.Rules.{rules}
 use Rattle.desk.proofs.change_tune.Goals as goal
 
 -- src/lib.rt:222:1

@@ -1,5 +1,4 @@
 use mir.Facts.{to_z-of_z}
-use borrow.Author.Rules.{rules}
 use Rattle.desk.proofs.change_write.Goals as goal
 
 -- src/lib.rt:156:1

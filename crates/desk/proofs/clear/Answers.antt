@@ -1,6 +1,4 @@
 -- `clear` meets its contract: place by place a transaction that has ended.
-use borrow.Author.Rules.{rules}
-use Prim.Native.Nat.{◌-◌, ◌≤◌}
 use native.Mathlib.Omega.{arith}
 use mathlib.Core.Path.{◌≡◌, refl, ◌∙◌, ap}
 use Rattle.transaction.specs.Transaction.{ended}

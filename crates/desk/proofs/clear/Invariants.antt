@@ -1,11 +1,7 @@
 -- `clear` meets its contract: place by place a transaction that has ended.
-use borrow.Author.Rules.{rules}
 use Prim.Native.Nat.{◌-◌, ◌≤◌}
-use native.Mathlib.Omega.{arith}
-use mathlib.Core.Path.{◌≡◌, refl, ◌∙◌, ap}
-use Rattle.transaction.specs.Transaction.{ended}
+use mathlib.Core.Path.{◌≡◌}
 use Rattle.words.specs.After.{cleared}
-use Rattle.desk.proofs.Laws.{clear_step}
 use Rattle.desk.proofs.clear.Given as goal
 
 abbrev pub invariant-loop-i : goal.invariant-loop-i

@@ -2,7 +2,6 @@
 use mathlib.Core.Path.{ap, ◌∙◌}
 use Rattle.desk.specs.Desk.{done_reply}
 use Rattle.desk.proofs.Laws.{abort-nobody, abort_goes}
-use borrow.Author.Rules.{rules}
 use Rattle.desk.proofs.decide_abort.Goals as goal
 
 -- src/lib.rt:250:9

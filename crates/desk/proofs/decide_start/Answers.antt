@@ -1,7 +1,6 @@
 use Rattle.desk.proofs.Laws.{start-full, start-spent, start_goes}
 use mathlib.Core.Path.{ap, ◌∙◌}
 use Rattle.model.specs.Call.{started}
-use borrow.Author.Rules.{rules}
 use Rattle.desk.proofs.decide_start.Goals as goal
 
 -- src/lib.rt:99:9

@@ -2,7 +2,6 @@
 use mathlib.Core.Path.{ap, ◌∙◌}
 use Rattle.desk.specs.Desk.{done_reply}
 use Rattle.desk.proofs.Laws.{tune-nobody, tune-refused, tune-taken}
-use borrow.Author.Rules.{rules}
 use Rattle.desk.proofs.decide_tune.Goals as goal
 
 -- src/lib.rt:211:9

@@ -1,7 +1,6 @@
 use Rattle.desk.proofs.Laws.{write-nobody, write_no_key, write-full, write_goes}
 use mathlib.Core.Path.{ap, ◌∙◌}
 use Rattle.desk.specs.Desk.{done_reply}
-use borrow.Author.Rules.{rules}
 use Rattle.desk.proofs.decide_write.Goals as goal
 
 -- src/lib.rt:145:9

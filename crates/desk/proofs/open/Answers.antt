@@ -1,5 +1,4 @@
 -- `open` meets its contract: nobody at the desk, the clock, and no version.
-use borrow.Author.Rules.{rules}
 use Rattle.desk.proofs.open.Goals as goal
 
 -- src/lib.rt:52:1

@@ -1,7 +1,6 @@
 use Rattle.desk.proofs.Laws.{start-after, refused-stays}
 use mathlib.Core.Path.{ap, sym, ◌∙◌}
 use Rattle.desk.specs.Desk.{start_reply}
-use borrow.Author.Rules.{rules}
 use Rattle.desk.proofs.start.Goals as goal
 
 -- src/lib.rt:124:1

@@ -2,7 +2,6 @@
 use mathlib.Core.Path.{ap, sym, ◌∙◌}
 use Rattle.desk.specs.Desk.{done_reply}
 use Rattle.desk.proofs.Laws.{tune-after, refused-stays}
-use borrow.Author.Rules.{rules}
 use Rattle.desk.proofs.tune.Goals as goal
 
 -- src/lib.rt:229:1

@@ -2,7 +2,6 @@ use Rattle.desk.proofs.Laws.{write-after, refused-stays}
 use mathlib.Core.Path.{ap, sym, ◌∙◌}
 use mir.Facts.{to_z-of_z}
 use Rattle.desk.specs.Desk.{done_reply}
-use borrow.Author.Rules.{rules}
 use Rattle.desk.proofs.write.Goals as goal
 
 -- src/lib.rt:166:1

@@ -1,7 +1,6 @@
 -- `behind_name` meets its contract, a letter at a time.
 use borrow.Author.Tests.{ne_eqb}
 use Rattle.history.specs.Line.{behind_name}
-use borrow.Author.Rules.{rules}
 use Rattle.history.proofs.behind_name.Goals as goal
 
 pub returns-in-115 : goal.returns-in-115

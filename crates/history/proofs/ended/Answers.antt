@@ -1,6 +1,5 @@
 -- `ended` meets its contract.
 use native.Mathlib.Omega.{arith}
-use borrow.Author.Rules.{rules}
 use Rattle.decimal.proofs.Steps.{byte_within}
 use Rattle.history.proofs.Steps.{newline_missing, newline-there}
 use Rattle.history.proofs.ended.Goals as goal

@@ -5,7 +5,6 @@ use borrow.Author.Tests.{le-leb, lt-leb}
 use Rattle.history.specs.Line.{line_at, line_reply, line_said}
 use Rattle.decimal.proofs.Tabs.{natural_small}
 use Rattle.history.proofs.Steps.{number_goes, number_stops}
-use borrow.Author.Rules.{rules}
 use Rattle.history.proofs.line_at.Goals as goal
 
 pub returns-then-text-at : goal.returns-then-text-at

@@ -3,7 +3,6 @@ use native.Mathlib.Omega.{arith}
 use Rattle.history.specs.Line.{write_at}
 use Rattle.decimal.proofs.Tabs.{natural_small}
 use Rattle.history.proofs.Steps.{number_goes, number_stops}
-use borrow.Author.Rules.{rules}
 use Rattle.history.proofs.write_at.Goals as goal
 
 pub returns-in_default : goal.returns-in_default

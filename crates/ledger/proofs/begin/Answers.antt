@@ -4,7 +4,6 @@ use mathlib.Core.Path.{◌∙◌, ap}
 use Rattle.records.specs.declared.Row.{Row}
 use Rattle.records.specs.Ledger.{fresh_row}
 use Rattle.book.specs.Book.{row_added}
-use borrow.Author.Rules.{rules}
 use Rattle.ledger.proofs.begin.Goals as goal
 
 pub returns-then-number-gt0 : goal.returns-then-number-gt0

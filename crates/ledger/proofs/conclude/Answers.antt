@@ -1,6 +1,5 @@
 -- `conclude` meets its contract: the commit's verdict is put behind the others, and its row ends.
 use Rattle.ledger.proofs.Cases.{conclude-commit}
-use borrow.Author.Rules.{rules}
 use Rattle.ledger.proofs.conclude.Goals as goal
 
 pub returns : goal.returns

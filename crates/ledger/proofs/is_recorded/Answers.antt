@@ -1,6 +1,5 @@
 -- `is_recorded` meets its contract: an own read is by whether the key was written.
 use borrow.Author.Tests.{eq-eqb, ne_eqb}
-use borrow.Author.Rules.{rules}
 use Rattle.ledger.proofs.is_recorded.Goals as goal
 
 pub returns-then-w-row : goal.returns-then-w-row

@@ -1,5 +1,4 @@
 -- `is_start` meets its contract: whether the letter is `s`, a kind of record at a time.
-use borrow.Author.Rules.{rules}
 use Rattle.ledger.proofs.is_start.Goals as goal
 
 pub returns-in-Start : goal.returns-in-Start

@@ -1,7 +1,6 @@
 -- `note` meets its contract: the read is put behind the others and becomes the row's last, or is no record.
 use native.Mathlib.Omega.{arith}
 use Rattle.ledger.proofs.Cases.{note-some, note-none}
-use borrow.Author.Rules.{rules}
 use Rattle.ledger.proofs.note.Goals as goal
 
 pub overflow_cast-row : goal.overflow_cast-row

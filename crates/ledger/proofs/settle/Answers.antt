@@ -1,6 +1,5 @@
 -- `settle` meets its contract: a kind of record at a time.
 use Rattle.ledger.proofs.Cases.{settle-start, settle-tune, settle-write, settle-abort, settle_read, settle-commit}
-use borrow.Author.Rules.{rules}
 use Rattle.ledger.proofs.settle.Goals as goal
 
 pub returns-in-Start : goal.returns-in-Start

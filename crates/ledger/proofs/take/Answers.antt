@@ -1,6 +1,5 @@
 -- `take` meets its contract: a start begins, another record is settled where its row is open, and refused where it is not.
 use Rattle.ledger.proofs.Cases.{take-starts, take_open, take-closed}
-use borrow.Author.Rules.{rules}
 use Rattle.ledger.proofs.take.Goals as goal
 
 pub begin-requires : goal.begin-requires

@@ -1,7 +1,6 @@
 -- `written` meets its contract: the key has a bit, so one is shifted by less than 64.
 use Rattle.records.specs.Ledger.{changed}
 use Rattle.ledger.proofs.Cases.{shifted}
-use borrow.Author.Rules.{rules}
 use Rattle.ledger.proofs.written.Goals as goal
 
 pub returns : goal.returns

@@ -1,5 +1,4 @@
 -- `change_commit` meets its contract: installed, ended, the clock moved.
-use borrow.Author.Rules.{rules}
 use Rattle.master.proofs.change_commit.Goals as goal
 
 pub returns : goal.returns

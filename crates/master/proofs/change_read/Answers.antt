@@ -1,5 +1,4 @@
 -- `change_read` meets its contract: loaded, recorded, stored.
-use borrow.Author.Rules.{rules}
 use Rattle.master.proofs.change_read.Goals as goal
 
 pub returns : goal.returns

@@ -3,7 +3,6 @@ use mathlib.Core.Path.{ap, sym, ◌∙◌}
 use Rattle.desk.proofs.Laws.{refused-stays}
 use Rattle.master.specs.Master.{commit_reply}
 use Rattle.master.proofs.Laws.{commit-after, abort-after}
-use borrow.Author.Rules.{rules}
 use Rattle.master.proofs.commit.Goals as goal
 
 pub returns-in-Committed : goal.returns-in-Committed

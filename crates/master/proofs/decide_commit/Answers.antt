@@ -2,7 +2,6 @@
 use mathlib.Core.Path.{ap, ◌∙◌}
 use Rattle.master.specs.Master.{commit_reply}
 use Rattle.master.proofs.Laws.{commit-nobody, aborts-at, log-full-at, spent-at, commits-at}
-use borrow.Author.Rules.{rules}
 use Rattle.master.proofs.decide_commit.Goals as goal
 
 pub returns-then-place-ge-DESK : goal.returns-then-place-ge-DESK

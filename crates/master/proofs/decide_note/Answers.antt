@@ -2,7 +2,6 @@
 use mathlib.Core.Path.{ap, ◌∙◌}
 use Rattle.master.specs.Master.{read_reply}
 use Rattle.master.proofs.Laws.{note-nobody, note_no_key, written_at, absent_at, note-full-at, noted-at}
-use borrow.Author.Rules.{rules}
 use Rattle.master.proofs.decide_note.Goals as goal
 
 pub returns-then-place-ge-DESK : goal.returns-then-place-ge-DESK

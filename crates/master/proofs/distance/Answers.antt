@@ -1,7 +1,6 @@
 -- `distance` meets its contract: refusals 1 and 9 in that order, or the distance of the read at the place.
 use mir.Facts.{to_z-of_z}
 use Rattle.master.proofs.Laws.{distance-nobody, none-at, distance-at}
-use borrow.Author.Rules.{rules}
 use Rattle.master.proofs.distance.Goals as goal
 
 pub returns-then-i-ge-DESK : goal.returns-then-i-ge-DESK

@@ -1,6 +1,5 @@
 -- `made` meets its contract: refusal 18, or the versions of the stamp.
 use Rattle.master.proofs.Laws.{made_none, made_some}
-use borrow.Author.Rules.{rules}
 use Rattle.master.proofs.made.Goals as goal
 
 pub returns-then-batch-eq0 : goal.returns-then-batch-eq0

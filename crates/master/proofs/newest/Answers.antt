@@ -1,6 +1,5 @@
 -- `newest` meets its contract: refusal 2, or the stamp of the key's newest version.
 use Rattle.master.proofs.Laws.{newest_no_key, newest_goes}
-use borrow.Author.Rules.{rules}
 use Rattle.master.proofs.newest.Goals as goal
 
 pub returns-then-key-gt-LAST_KEY : goal.returns-then-key-gt-LAST_KEY

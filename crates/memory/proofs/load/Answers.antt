@@ -1,5 +1,4 @@
 use Rattle.memory.specs.Memory.{loaded}
-use borrow.Author.Rules.{rules}
 use Rattle.memory.proofs.load.Goals as goal
 
 -- src/lib.rt:135:1

@@ -1,7 +1,7 @@
-use Prim.Native.Nat.{ℕ, ◌+◌, ◌*◌, ◌-◌, ◌<◌, ◌≤◌}
+use Prim.Native.Nat.{ℕ, ◌+◌, ◌*◌, ◌<◌}
 use native.Mathlib.Omega.{arith}
-use mathlib.Core.Path.{◌≡◌, ◌∙◌}
-use lib.ListN.{length, get_or, length-set}
+use mathlib.Core.Path.{◌∙◌}
+use lib.ListN.{length, length-set}
 use Rattle.memory.specs.Memory.{mark_at}
 use Rattle.memory.proofs.Tables.{is_tab, filled}
 use Rattle.transaction.specs.Transaction.{no_mark}

@@ -1,11 +1,8 @@
 use Prim.Native.Nat.{ℕ, ◌+◌, ◌*◌, ◌-◌, ◌<◌, ◌≤◌}
-use native.Mathlib.Omega.{arith}
-use mathlib.Core.Path.{◌≡◌, ◌∙◌}
-use lib.ListN.{length, get_or, length-set}
+use mathlib.Core.Path.{◌≡◌}
+use lib.ListN.{length, get_or}
 use Rattle.memory.specs.Memory.{mark_at}
-use Rattle.memory.proofs.Tables.{is_tab, filled}
 use Rattle.transaction.specs.Transaction.{no_mark}
-use borrow.Author.Rules.{rules}
 use Rattle.memory.proofs.load_reads.Given as goal
 
 abbrev pub invariant-loop-i : goal.invariant-loop-i

@@ -1,11 +1,8 @@
 use Prim.Native.Nat.{ℕ, ◌+◌, ◌*◌, ◌-◌, ◌<◌, ◌≤◌}
-use native.Mathlib.Omega.{arith}
-use mathlib.Core.Path.{◌≡◌, ◌∙◌}
-use lib.ListN.{length, get_or, length-set}
+use mathlib.Core.Path.{◌≡◌}
+use lib.ListN.{length, get_or}
 use Rattle.memory.specs.Memory.{write_at}
-use Rattle.memory.proofs.Tables.{is_tab, filled}
 use Rattle.transaction.specs.Transaction.{no_write}
-use borrow.Author.Rules.{rules}
 use Rattle.memory.proofs.load_writes.Given as goal
 
 abbrev pub invariant-loop-i : goal.invariant-loop-i

@@ -1,5 +1,4 @@
 use Rattle.memory.proofs.Tables.{store_goes}
-use borrow.Author.Rules.{rules}
 use Rattle.memory.proofs.store.Goals as goal
 
 -- src/lib.rt:186:1

@@ -1,10 +1,7 @@
 use native.Mathlib.Nat.{add-zero}
-use Prim.Native.Nat.{◌+◌, ◌*◌, ◌-◌, ◌≤◌}
 use native.Mathlib.Omega.{arith}
 use mathlib.Core.Path.{◌≡◌, ◌∙◌}
-use lib.ListN.{length, drop}
-use lib.Seq.{sets}
-use Rattle.memory.specs.Memory.{mark_words}
+use lib.ListN.{length}
 use Rattle.memory.proofs.Tables.{reads-step, reads_end}
 use Rattle.lists.proofs.Length.{length_mapped}
 use borrow.Author.Rules.{rules}

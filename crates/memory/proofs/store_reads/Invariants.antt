@@ -1,13 +1,8 @@
-use native.Mathlib.Nat.{add-zero}
 use Prim.Native.Nat.{◌+◌, ◌*◌, ◌-◌, ◌≤◌}
-use native.Mathlib.Omega.{arith}
-use mathlib.Core.Path.{◌≡◌, ◌∙◌}
-use lib.ListN.{length, drop}
+use mathlib.Core.Path.{◌≡◌}
+use lib.ListN.{drop}
 use lib.Seq.{sets}
 use Rattle.memory.specs.Memory.{mark_words}
-use Rattle.memory.proofs.Tables.{reads-step, reads_end}
-use Rattle.lists.proofs.Length.{length_mapped}
-use borrow.Author.Rules.{rules}
 use Rattle.memory.proofs.store_reads.Given as goal
 
 abbrev pub invariant-loop-i : goal.invariant-loop-i

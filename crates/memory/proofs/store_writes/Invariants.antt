@@ -1,17 +1,8 @@
-use mir.Facts.{to_z-of_z}
-use mir.Syntax.{w32}
-use mir.Val.{SFits}
-use native.Mathlib.Nat.{add-zero}
 use Prim.Native.Nat.{◌+◌, ◌*◌, ◌-◌, ◌≤◌}
-use native.Mathlib.Omega.{arith}
-use mathlib.Core.Path.{◌≡◌, ◌∙◌}
-use lib.ListN.{length, get_or, drop}
+use mathlib.Core.Path.{◌≡◌}
+use lib.ListN.{drop}
 use lib.Seq.{sets}
 use Rattle.memory.specs.Memory.{write_words}
-use Rattle.memory.proofs.Tables.{writes-step, writes_end}
-use Rattle.transaction.specs.Transaction.{no_write}
-use Rattle.lists.proofs.Length.{length_mapped}
-use borrow.Author.Rules.{rules}
 use Rattle.memory.proofs.store_writes.Given as goal
 
 abbrev pub invariant-loop-i : goal.invariant-loop-i

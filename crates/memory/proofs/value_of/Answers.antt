@@ -4,7 +4,6 @@ use native.Mathlib.Omega.{arith}
 use mathlib.Core.Path.{ap}
 use mir.Syntax.{w32}
 use mir.Val.{to_z}
-use borrow.Author.Rules.{rules}
 use Rattle.memory.proofs.value_of.Goals as goal
 
 -- src/lib.rt:47:1

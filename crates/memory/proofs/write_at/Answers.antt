@@ -1,5 +1,4 @@
 use mir.Facts.{to_z-of_z}
-use borrow.Author.Rules.{rules}
 use Rattle.memory.proofs.write_at.Goals as goal
 
 -- src/lib.rt:85:1

@@ -1,16 +1,11 @@
 use Prim.Native.Nat.{◌+◌, ◌-◌, ◌≤◌}
-use native.Mathlib.Omega.{arith}
-use mathlib.Core.Path.{◌≡◌, ◌∙◌}
+use mathlib.Core.Path.{◌≡◌}
 use lib.ListN.{drop}
 use Rattle.lists.specs.Lists.{find}
-use Rattle.lists.proofs.Find.{search_over, search_hit, search_miss}
 use Rattle.memory.specs.Memory.{places_of}
-use Rattle.memory.proofs.Laws.{places_length}
-use Rattle.model.specs.State.{free_place, no_transaction}
-use Rattle.places.proofs.Laws.{free-at}
+use Rattle.model.specs.State.{free_place}
 use Rattle.transaction.specs.declared.Transaction.{Transaction}
 use mathlib.Core.Bool.{Bool, not}
-use borrow.Author.Rules.{rules}
 use Rattle.places.proofs.free_place.Given as goal
 
 abbrev is_free : Transaction → Bool

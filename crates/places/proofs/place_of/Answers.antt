@@ -1,14 +1,10 @@
-use Prim.Native.Nat.{◌+◌, ◌-◌, ◌≤◌}
 use native.Mathlib.Omega.{arith}
-use mathlib.Core.Path.{◌≡◌, ◌∙◌}
-use lib.ListN.{drop}
-use Rattle.lists.specs.Lists.{find}
+use mathlib.Core.Path.{◌∙◌}
 use Rattle.lists.proofs.Find.{search_over, search_hit, search_miss}
 use Rattle.memory.specs.Memory.{places_of}
 use Rattle.memory.proofs.Laws.{places_length}
 use Rattle.model.specs.State.{place_of, goes_by, no_transaction}
 use Rattle.places.proofs.Laws.{goes_at}
-use borrow.Author.Rules.{rules}
 use Rattle.places.proofs.place_of.Goals as goal
 
 -- src/lib.rt:53:5

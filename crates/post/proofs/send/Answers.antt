@@ -1,7 +1,6 @@
 -- `send` meets its contract: refusal 18, or what writing the message says.
 use Rattle.memory.specs.Memory.{state_of}
 use Rattle.post.proofs.Laws.{refused-sends, made-sends}
-use borrow.Author.Rules.{rules}
 use Rattle.post.proofs.send.Goals as goal
 
 pub returns-in-Refused : goal.returns-in-Refused

@@ -1,7 +1,6 @@
 -- `hand_over` meets its contract: the text is put at the front of the room.
 use Rattle.decimal.proofs.Putting.{handed_whole, handed_full}
 use Rattle.report.specs.Write.{wrote_bytes, refused_with, written_as}
-use borrow.Author.Rules.{rules}
 use Rattle.report.proofs.hand_over.Goals as goal
 
 pub returns-in_default : goal.returns-in_default

@@ -1,7 +1,6 @@
 -- `put_head` meets its contract: a word and a number.
 use native.Mathlib.Omega.{arith}
 use Rattle.report.proofs.Lines.{head_put}
-use borrow.Author.Rules.{rules}
 use Rattle.report.proofs.put_head.Goals as goal
 
 pub returns : goal.returns

@@ -1,6 +1,5 @@
 -- `put_refused` meets its contract: a word and two numbers.
 use Rattle.report.proofs.Lines.{refused-put}
-use borrow.Author.Rules.{rules}
 use Rattle.report.proofs.put_refused.Goals as goal
 
 pub returns : goal.returns

@@ -1,6 +1,5 @@
 -- `put_report` meets its contract: the head, the verdicts and the totals.
 use Rattle.report.proofs.Lines.{report-put}
-use borrow.Author.Rules.{rules}
 use Rattle.report.proofs.put_report.Goals as goal
 
 pub returns : goal.returns

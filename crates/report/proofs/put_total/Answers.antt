@@ -1,6 +1,5 @@
 -- `put_total` meets its contract: a word and four numbers.
 use Rattle.report.proofs.Lines.{total_put}
-use borrow.Author.Rules.{rules}
 use Rattle.report.proofs.put_total.Goals as goal
 
 pub returns : goal.returns

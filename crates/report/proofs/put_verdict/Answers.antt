@@ -1,7 +1,6 @@
 -- `put_verdict` meets its contract: a number and a word of two bytes.
 use native.Mathlib.Omega.{arith}
 use Rattle.report.proofs.Lines.{verdict_put}
-use borrow.Author.Rules.{rules}
 use Rattle.report.proofs.put_verdict.Goals as goal
 
 pub returns : goal.returns

@@ -1,12 +1,9 @@
 -- `put_verdicts` meets its contract. The invariant: the lines passed stand behind one another, at most 24 bytes each.
 use Prim.Native.Nat.{◌+◌, ◌-◌, ◌*◌, ◌≤◌}
-use native.Mathlib.Omega.{arith}
 use mathlib.Core.List.{reverse}
 use Rattle.decimal.specs.Write.{Puts}
-use Rattle.decimal.proofs.Putting.{puts_length}
 use Rattle.book.specs.Book.{judged_of}
 use Rattle.report.specs.Report.{verdict_lines}
-use Rattle.report.proofs.Lines.{verdicts-none, verdicts-more, verdicts_all}
 use Rattle.report.proofs.put_verdicts.Given as goal
 
 abbrev pub invariant-loop-i : goal.invariant-loop-i

@@ -1,7 +1,6 @@
 -- `put_word` meets its contract: the word's bytes, and the byte behind them.
 use mathlib.Core.Path.{refl}
 use Rattle.report.proofs.Putting.{word_put}
-use borrow.Author.Rules.{rules}
 use Rattle.report.proofs.put_word.Goals as goal
 
 pub returns : goal.returns

@@ -1,6 +1,5 @@
 -- `write_refused` meets its contract: the line as it stands in the local text is handed over.
 use Rattle.decimal.proofs.Putting.{puts_front, puts_taken}
-use borrow.Author.Rules.{rules}
 use Rattle.report.proofs.write_refused.Goals as goal
 
 pub slice_bounds-hand_over-end : goal.slice_bounds-hand_over-end

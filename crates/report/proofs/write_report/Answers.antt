@@ -1,6 +1,5 @@
 -- `write_report` meets its contract: the lines as they stand in the local text are handed over.
 use Rattle.decimal.proofs.Putting.{puts_front, puts_taken}
-use borrow.Author.Rules.{rules}
 use Rattle.report.proofs.write_report.Goals as goal
 
 pub slice_bounds-hand_over-end : goal.slice_bounds-hand_over-end

@@ -2,7 +2,6 @@
 use native.Mathlib.Omega.{arith}
 use Rattle.book.specs.Book.{rows_in}
 use Rattle.rows.proofs.Halves.{within_past, between_past, between-empty}
-use borrow.Author.Rules.{rules}
 use Rattle.rows.proofs.count_both.Goals as goal
 
 pub returns-then-key-ge64 : goal.returns-then-key-ge64

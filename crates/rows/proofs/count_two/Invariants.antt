@@ -1,14 +1,10 @@
 -- `count_two` meets its contract: what was walked is counted, by both counters.
 use Prim.Native.Nat.{◌≤◌, ◌-◌}
-use native.Mathlib.Numerals.{add-one}
-use native.Mathlib.Omega.{arith}
-use mathlib.Core.Path.{◌≡◌, refl}
+use mathlib.Core.Path.{◌≡◌}
 use Rattle.lists.specs.Lists as lists
-use Rattle.records.specs.Ledger.{made_between, rows_between}
+use Rattle.records.specs.Ledger.{made_between}
 use Rattle.book.specs.Book.{rows_of, row_count}
-use Rattle.rows.specs.Table.{made_within, rows_within, half_from}
-use Rattle.lists.proofs.Count.{bit_le, count-more}
-use Rattle.rows.proofs.Halves.{half_le, within_half, between_half}
+use Rattle.rows.specs.Table.{made_within, half_from}
 use Rattle.rows.proofs.count_two.Given as goal
 
 abbrev pub invariant-loop-i : goal.invariant-loop-i

@@ -1,10 +1,8 @@
 -- `find` meets its contract: the rows not yet looked at have the newest of the name.
 use Prim.Native.Nat.{◌≤◌}
-use native.Mathlib.Omega.{arith}
 use mathlib.Core.Path.{◌≡◌}
 use Rattle.book.specs.Book.{rows_of, rows_in, row_count}
 use Rattle.rows.specs.Table.{row_number}
-use Rattle.rows.proofs.Walk.{place_over, place_hit, place_miss}
 use Rattle.rows.proofs.find.Given as goal
 
 abbrev pub invariant-loop-i : goal.invariant-loop-i

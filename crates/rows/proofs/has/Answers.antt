@@ -1,6 +1,5 @@
 -- `has` meets its contract: the bit says it.
 use Rattle.rows.proofs.Words.{bit_one}
-use borrow.Author.Rules.{rules}
 use Rattle.rows.proofs.has.Goals as goal
 
 pub returns : goal.returns

@@ -2,7 +2,6 @@
 use native.Mathlib.Omega.{arith}
 use mathlib.Core.Path.{◌∙◌}
 use Rattle.rows.proofs.Words.{between-early, between-late, between_both}
-use borrow.Author.Rules.{rules}
 use Rattle.rows.proofs.one_if_between.Goals as goal
 
 pub returns-then-end-from : goal.returns-then-end-from

@@ -2,7 +2,6 @@
 use mathlib.Core.Path.{sym, ap}
 use Rattle.lists.specs.Lists.{bit}
 use Rattle.rows.proofs.Words.{has_over, has-bit}
-use borrow.Author.Rules.{rules}
 use Rattle.rows.proofs.one_if_bit.Goals as goal
 
 pub returns-then-bit-lt32 : goal.returns-then-bit-lt32

@@ -2,7 +2,6 @@
 use mathlib.Core.Path.{sym, ap}
 use Rattle.lists.specs.Lists.{bit}
 use Rattle.rows.proofs.Words.{has_past, has-bit}
-use borrow.Author.Rules.{rules}
 use Rattle.rows.proofs.one_if_has.Goals as goal
 
 pub returns-then-key-lt64 : goal.returns-then-key-lt64

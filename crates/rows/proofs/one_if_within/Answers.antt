@@ -2,7 +2,6 @@
 use native.Mathlib.Omega.{arith}
 use mathlib.Core.Path.{◌∙◌}
 use Rattle.rows.proofs.Words.{within-early, within-late, within_both}
-use borrow.Author.Rules.{rules}
 use Rattle.rows.proofs.one_if_within.Goals as goal
 
 pub returns-then-end-after : goal.returns-then-end-after

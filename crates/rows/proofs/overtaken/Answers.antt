@@ -1,10 +1,8 @@
 -- `overtaken` meets its contract: what was walked is counted.
-use Prim.Native.Nat.{◌≤◌, ◌-◌}
 use native.Mathlib.Numerals.{add-one}
 use native.Mathlib.Omega.{arith}
 use mathlib.Core.Path.{◌≡◌, refl}
 use Rattle.lists.specs.Lists as lists
-use Rattle.records.specs.Ledger.{overtakes}
 use Rattle.book.specs.Book.{rows_of, row_count}
 use Rattle.lists.proofs.Count.{bit_le, count-more, any-count}
 use Rattle.rows.proofs.Halves.{overtakes_word}

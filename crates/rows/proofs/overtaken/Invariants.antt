@@ -1,13 +1,9 @@
 -- `overtaken` meets its contract: what was walked is counted.
 use Prim.Native.Nat.{◌≤◌, ◌-◌}
-use native.Mathlib.Numerals.{add-one}
-use native.Mathlib.Omega.{arith}
-use mathlib.Core.Path.{◌≡◌, refl}
+use mathlib.Core.Path.{◌≡◌}
 use Rattle.lists.specs.Lists as lists
 use Rattle.records.specs.Ledger.{overtakes}
 use Rattle.book.specs.Book.{rows_of, row_count}
-use Rattle.lists.proofs.Count.{bit_le, count-more, any-count}
-use Rattle.rows.proofs.Halves.{overtakes_word}
 use Rattle.rows.proofs.overtaken.Given as goal
 
 abbrev pub invariant-loop-i : goal.invariant-loop-i

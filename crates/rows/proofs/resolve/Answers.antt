@@ -1,6 +1,5 @@
 -- `resolve` meets its contract: the start version, or the row of its number.
 use Rattle.rows.proofs.Lines.{resolve-start, resolve-at}
-use borrow.Author.Rules.{rules}
 use Rattle.rows.proofs.resolve.Goals as goal
 
 pub returns-then-w-eq0 : goal.returns-then-w-eq0

@@ -2,7 +2,6 @@
 use native.Mathlib.Omega.{arith}
 use mathlib.Core.Path.{sym, ◌∙◌}
 use Rattle.rows.proofs.Words.{line-none, line-nowhere, line-end}
-use borrow.Author.Rules.{rules}
 use Rattle.rows.proofs.version_line.Goals as goal
 
 pub returns-then-end-eq0 : goal.returns-then-end-eq0

@@ -1,5 +1,4 @@
 -- `certify` meets its contract: a law for each answer, from what the callees found.
-use borrow.Author.Rules.{rules}
 use Rattle.rules.proofs.Verdict.{broken_outside, broken_SV, broken_WC, all_kept}
 use Rattle.rules.proofs.certify.Goals as goal
 

@@ -1,7 +1,6 @@
 -- `distance_of` meets its contract: the difference of the two counts.
 use mir.Facts.{to_z-of_z}
 use Rattle.rules.proofs.Asked.{by_counts}
-use borrow.Author.Rules.{rules}
 use Rattle.rules.proofs.distance_of.Goals as goal
 
 pub returns : goal.returns

@@ -1,6 +1,5 @@
 -- `fails` meets its contract: each arm is a case of the test.
 use Rattle.rules.proofs.Asked.{is_torn, is_apart}
-use borrow.Author.Rules.{rules}
 use Rattle.rules.proofs.fails.Goals as goal
 
 pub returns-in-Torn : goal.returns-in-Torn

@@ -1,14 +1,8 @@
 -- `first` meets its contract: what the reads not yet asked answer is the whole answer.
-use Prim.Native.Nat.{◌+◌, ◌-◌}
 use native.Mathlib.Omega.{arith}
-use mathlib.Core.Path.{◌≡◌, ◌∙◌, sym, ap}
-use lib.ListN.{drop}
-use lib.ListN as L
-use borrow.Author.Rules.{rules}
-use Rattle.lists.specs.Lists.{find}
+use mathlib.Core.Path.{◌∙◌, sym, ap}
 use Rattle.lists.proofs.Find.{search_over, search_hit, search_miss}
-use Rattle.memory.specs.Memory.{log_of}
-use Rattle.transaction.specs.Transaction.{reads_of, no_mark}
+use Rattle.transaction.specs.Transaction.{no_mark}
 use Rattle.rules.specs.Tests.{fails}
 use Rattle.rules.proofs.first.Goals as goal
 

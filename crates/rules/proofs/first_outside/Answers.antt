@@ -1,18 +1,10 @@
 -- `first_outside` meets its contract: a search for the stale, and the first early one kept.
-use Prim.Native.Nat.{◌+◌, ◌-◌}
 use native.Mathlib.Omega.{arith}
-use mathlib.Core.Path.{◌≡◌}
-use lib.ListN.{drop}
-use lib.ListN as L
 use mir.Facts.{to_z-of_z}
-use borrow.Author.Rules.{rules}
-use Rattle.lists.specs.Lists.{find}
 use Rattle.lists.proofs.Find.{search_miss}
-use Rattle.memory.specs.Memory.{log_of}
-use Rattle.transaction.specs.Transaction.{reads_of, no_mark}
-use Rattle.model.specs.Rules.{stale, early}
+use Rattle.transaction.specs.Transaction.{no_mark}
 use Rattle.rules.proofs.Asked.{is_stale, is_early}
-use Rattle.rules.proofs.Outside.{Keeps, keeps-first, keeps-more, outside-BV, outside-FV, inside}
+use Rattle.rules.proofs.Outside.{keeps-first, keeps-more, outside-BV, outside-FV, inside}
 use Rattle.rules.proofs.first_outside.Goals as goal
 
 pub loop-i-init : goal.loop-i-init

@@ -1,16 +1,12 @@
 -- `first_overtaken` meets its contract: what the written keys not yet asked answer is the whole answer.
 use Prim.Native.Nat.{◌+◌, ◌-◌}
-use native.Mathlib.Omega.{arith}
 use mathlib.Core.Path.{◌≡◌}
 use lib.ListN.{drop}
 use lib.ListN as L
-use borrow.Author.Rules.{rules}
 use Rattle.lists.specs.Lists.{find}
-use Rattle.lists.proofs.Find.{search_over, search_hit, search_miss}
 use Rattle.memory.specs.Memory.{log_of}
-use Rattle.transaction.specs.Transaction.{writes_of, no_write}
+use Rattle.transaction.specs.Transaction.{writes_of}
 use Rattle.model.specs.Rules.{overtaken}
-use Rattle.rules.proofs.Asked.{of-key}
 use Rattle.rules.proofs.first_overtaken.Given as goal
 
 abbrev pub invariant-loop-i : goal.invariant-loop-i

@@ -1,7 +1,6 @@
 -- `is_early` meets its contract: at most -k2 - 1 is not minus at most k2.
 use native.Mathlib.Omega.{arith}
 use mir.Facts.{to_z-of_z}
-use borrow.Author.Rules.{rules}
 use Rattle.rules.proofs.Signed.{past, complement}
 use Rattle.rules.proofs.is_early.Goals as goal
 

@@ -1,13 +1,9 @@
 -- `latest` meets its contract: the latest so far and the latest of what is left make the answer.
 use Prim.Native.Nat.{◌-◌, max}
-use native.Mathlib.Omega.{arith}
-use mathlib.Core.Path.{◌≡◌, ◌∙◌, ap}
+use mathlib.Core.Path.{◌≡◌}
 use lib.ListN.{length, drop}
-use borrow.Author.Rules.{rules}
-use Rattle.transaction.specs.declared.Mark.{Mark}
 use Rattle.transaction.specs.Transaction.{reads_of}
 use Rattle.rules.specs.Tests.{latest}
-use Rattle.rules.proofs.Reaching.{latest-more, latest_over}
 use Rattle.rules.proofs.latest.Given as goal
 
 abbrev pub invariant-loop-i : goal.invariant-loop-i

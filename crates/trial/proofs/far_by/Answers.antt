@@ -1,5 +1,4 @@
 -- `far_by` meets its contract, an answer at a time.
-use borrow.Author.Rules.{rules}
 use borrow.Author.Tests.{le-leb, lt-leb, lt-ltb, le-ltb, eq-eqb, ne_eqb}
 use Rattle.trial.specs.Trial.{far_by}
 use Rattle.trial.proofs.far_by.Goals as goal

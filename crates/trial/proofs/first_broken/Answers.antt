@@ -1,10 +1,6 @@
 -- `first_broken` meets its contract: the reads walked, and those not yet walked, have the least rank.
-use Prim.Native.Nat.{◌≤◌, min}
 use native.Mathlib.Omega.{arith}
-use mathlib.Core.Path.{◌≡◌, refl}
-use Rattle.records.specs.Ledger.{chain}
-use Rattle.book.specs.Book.{read_count, rows_in, seens_in, seens_of}
-use Rattle.trial.specs.Trial.{rules, least_of}
+use mathlib.Core.Path.{refl}
 use Rattle.trial.proofs.Chain.{among_le, least_start, least_over, least_more}
 use Rattle.trial.proofs.first_broken.Goals as goal
 

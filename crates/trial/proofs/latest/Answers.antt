@@ -1,12 +1,6 @@
 -- `latest` meets its contract: the reads walked, and those not yet walked, have the latest line.
-use Prim.Native.Nat.{◌≤◌, max}
 use native.Mathlib.Omega.{arith}
-use mathlib.Core.Path.{◌≡◌}
-use Rattle.records.specs.Ledger.{chain}
-use Rattle.book.specs.Book.{read_count, seens_in, seens_of}
-use Rattle.trial.specs.Trial.{latest_of}
 use Rattle.trial.proofs.Chain.{among_le, latest-start, latest_over, latest-more}
-use borrow.Author.Rules.{rules}
 use Rattle.trial.proofs.latest.Goals as goal
 
 pub loop-at-init : goal.loop-at-init

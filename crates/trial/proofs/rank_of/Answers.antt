@@ -4,7 +4,6 @@ use Rattle.records.specs.declared.Seen.{Seen}
 use Rattle.book.specs.Book.{rows_in}
 use Rattle.trial.proofs.Distance.{far-by}
 use Rattle.trial.proofs.Ranks.{rank_unread, rank_far, rank_apart, rank_whole}
-use borrow.Author.Rules.{rules}
 use Rattle.trial.proofs.rank_of.Goals as goal
 
 pub returns-then-line-eq-NOWHERE : goal.returns-then-line-eq-NOWHERE

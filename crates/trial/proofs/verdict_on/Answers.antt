@@ -5,7 +5,6 @@ use Rattle.records.specs.declared.Verdict.TheVariants.{RC, BV, FV, SV}
 use Rattle.book.specs.Book.{rows_in, seens_in}
 use Rattle.trial.specs.Trial.{ruled}
 use Rattle.trial.proofs.Ranks.{says, says_last, above}
-use borrow.Author.Rules.{rules}
 use Rattle.trial.proofs.verdict_on.Goals as goal
 
 pub returns-then-rank-eq0 : goal.returns-then-rank-eq0

@@ -2,7 +2,6 @@
 use native.Mathlib.Omega.{arith}
 use borrow.Author.Tests.{lt-ltb, le-ltb}
 use Rattle.verdict.specs.Pass.{comes_to}
-use borrow.Author.Rules.{rules}
 use Rattle.verdict.proofs.comes_to.Goals as goal
 
 pub returns-then-line-gt-LAST_LINE : goal.returns-then-line-gt-LAST_LINE

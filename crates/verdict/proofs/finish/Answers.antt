@@ -1,6 +1,5 @@
 -- `finish` meets its contract: what writing the report answered, in the judge's own terms.
 use Rattle.verdict.proofs.Answers.{finished}
-use borrow.Author.Rules.{rules}
 use Rattle.verdict.proofs.finish.Goals as goal
 
 pub returns-in-Bytes : goal.returns-in-Bytes

@@ -1,6 +1,5 @@
 -- `finished` meets its contract, a kind at a time.
 use Rattle.verdict.specs.Pass.{is_over}
-use borrow.Author.Rules.{rules}
 use Rattle.verdict.proofs.finished.Goals as goal
 
 pub returns-in-Record : goal.returns-in-Record

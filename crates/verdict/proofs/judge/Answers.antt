@@ -1,6 +1,5 @@
 -- `judge` meets its contract: 12, what the pass refused, or what the report came to.
 use Rattle.verdict.proofs.Answers.{too_long, judge-refused, judge-done}
-use borrow.Author.Rules.{rules}
 use Rattle.verdict.proofs.judge.Goals as goal
 
 pub returns-then-text-gt-HISTORY : goal.returns-then-text-gt-HISTORY

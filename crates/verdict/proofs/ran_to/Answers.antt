@@ -1,5 +1,4 @@
 -- `ran_to` meets its contract, a kind at a time, whatever words the pass left.
-use borrow.Author.Rules.{rules}
 use Rattle.verdict.proofs.ran_to.Goals as goal
 
 pub returns-in-Record : goal.returns-in-Record

@@ -1,6 +1,5 @@
 -- `record_of` meets its contract, a kind at a time.
 use Rattle.verdict.specs.Pass.{record_of}
-use borrow.Author.Rules.{rules}
 use Rattle.verdict.proofs.record_of.Goals as goal
 
 pub returns-in-Record : goal.returns-in-Record

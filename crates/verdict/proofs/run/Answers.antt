@@ -1,10 +1,8 @@
 -- `run` meets its contract: a turn is over, or it goes on behind the line; the calls of the turn say which line, what it comes to, and what it leaves.
-use Rattle.std.proofs.Common.{◌≡◌, ◌+◌, ◌≤◌, List, ℕ, false, true, sym, ap, ◌∙◌, arith}
-use Rattle.history.specs.declared.Line.{Line}
+use Rattle.std.proofs.Common.{◌≡◌, ◌+◌, ◌≤◌, false, sym, ap, ◌∙◌, arith}
 use Rattle.history.specs.Line.{line_at}
 use Rattle.reader.specs.declared.Reader.{Reader}
-use Rattle.records.specs.declared.Totals.{Totals}
-use Rattle.verdict.specs.Pass.{came_reply, is_over, words_after, passes}
+use Rattle.verdict.specs.Pass.{came_reply, words_after, passes}
 use Rattle.verdict.proofs.Turn.{line-there, turn_over, turn_few, turn_on}
 use Rattle.verdict.proofs.run.Goals as goal
 use Rattle.verdict.proofs.run.Goals.{After-finished}

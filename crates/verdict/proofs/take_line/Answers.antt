@@ -2,7 +2,6 @@
 use mathlib.Core.Path.{refl}
 use Rattle.verdict.specs.Pass.{after_take, words_after}
 use Rattle.verdict.proofs.Comes.{line_refused, line_taken, line_same}
-use borrow.Author.Rules.{rules}
 use Rattle.verdict.proofs.take_line.Goals as goal
 
 pub returns-in-Refused-take : goal.returns-in-Refused-take

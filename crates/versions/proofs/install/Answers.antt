@@ -1,10 +1,10 @@
-use Prim.Native.Nat.{◌-◌, ◌≤◌, ◌<◌}
+use Prim.Native.Nat.{◌<◌}
 use native.Mathlib.Omega.{arith}
-use mathlib.Core.Path.{◌≡◌, ◌∙◌, sym, ap, refl}
-use lib.ListN.{length, drop}
+use mathlib.Core.Path.{◌∙◌, sym, ap, refl}
+use lib.ListN.{length}
 use Rattle.transaction.specs.Transaction.{writes_of, no_write}
 use Rattle.lists.proofs.Length.{length_mapped, front-size, front_at}
-use Rattle.words.specs.Installed.{appended, installed}
+use Rattle.words.specs.Installed.{appended}
 use Rattle.versions.proofs.Laws.{install-step, install_over}
 use borrow.Author.Rules.{rules}
 use Rattle.versions.proofs.install.Goals as goal

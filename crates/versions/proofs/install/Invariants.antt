@@ -1,12 +1,8 @@
-use Prim.Native.Nat.{◌-◌, ◌≤◌, ◌<◌}
-use native.Mathlib.Omega.{arith}
-use mathlib.Core.Path.{◌≡◌, ◌∙◌, sym, ap, refl}
+use Prim.Native.Nat.{◌-◌, ◌≤◌}
+use mathlib.Core.Path.{◌≡◌}
 use lib.ListN.{length, drop}
-use Rattle.transaction.specs.Transaction.{writes_of, no_write}
-use Rattle.lists.proofs.Length.{length_mapped, front-size, front_at}
-use Rattle.words.specs.Installed.{appended, installed}
-use Rattle.versions.proofs.Laws.{install-step, install_over}
-use borrow.Author.Rules.{rules}
+use Rattle.transaction.specs.Transaction.{writes_of}
+use Rattle.words.specs.Installed.{installed}
 use Rattle.versions.proofs.install.Given as goal
 
 abbrev pub invariant-loop-i : goal.invariant-loop-i

@@ -1,5 +1,4 @@
 use mir.Facts.{to_z-of_z}
-use borrow.Author.Rules.{rules}
 use Rattle.versions.proofs.item_at.Goals as goal
 
 -- src/lib.rt:124:1

@@ -1,8 +1,6 @@
 -- `made_at` meets its contract: the batch has the commit's versions among the places passed.
-use Prim.Native.Nat.{◌-◌, ◌≤◌}
 use native.Mathlib.Omega.{arith}
 use mathlib.Core.Path.{◌≡◌, ◌∙◌}
-use borrow.Author.Rules.{rules}
 use Rattle.model.specs.Log.{made_at}
 use Rattle.memory.specs.Memory.{entries, length_of}
 use Rattle.versions.specs.Batch.{batch_of}

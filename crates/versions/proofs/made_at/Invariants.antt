@@ -1,13 +1,9 @@
 -- `made_at` meets its contract: the batch has the commit's versions among the places passed.
 use Prim.Native.Nat.{◌-◌, ◌≤◌}
-use native.Mathlib.Omega.{arith}
-use mathlib.Core.Path.{◌≡◌, ◌∙◌}
-use mathlib.Core.Logic.{⊎_elim}
-use borrow.Author.Rules.{rules}
+use mathlib.Core.Path.{◌≡◌}
 use Rattle.model.specs.Log.{made_at}
 use Rattle.memory.specs.Memory.{entries, length_of}
 use Rattle.versions.specs.Batch.{batch_of}
-use Rattle.versions.proofs.Gathering.{made_hit, made_miss}
 use Rattle.versions.proofs.made_at.Given as goal
 
 abbrev pub invariant-loop-i : goal.invariant-loop-i

@@ -1,10 +1,7 @@
 use Prim.Native.Nat.{◌≤◌}
-use native.Mathlib.Omega.{arith}
-use mathlib.Core.Path.{◌≡◌, ◌∙◌}
+use mathlib.Core.Path.{◌≡◌}
 use Rattle.model.specs.Log.{newest}
 use Rattle.memory.specs.Memory.{entries, length_of}
-use Rattle.versions.proofs.Laws.{newest_over, newest_hit, newest_miss}
-use borrow.Author.Rules.{rules}
 use Rattle.versions.proofs.newest.Given as goal
 
 abbrev pub invariant-loop-i : goal.invariant-loop-i

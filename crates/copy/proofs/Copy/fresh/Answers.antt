@@ -1,5 +1,4 @@
 -- `fresh` meets its contract: the start version at every place.
-use borrow.Author.Rules.{rules}
 use Rattle.copy.proofs.Copy.fresh.Goals as goal
 
 pub returns : goal.returns

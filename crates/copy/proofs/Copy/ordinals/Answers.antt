@@ -1,10 +1,8 @@
 -- `ordinals` meets its contract. The invariant: those copied so far are the first of all.
-use Prim.Native.Nat.{◌-◌, ◌≤◌}
 use native.Mathlib.Omega.{arith}
 use mathlib.Core.Path.{◌≡◌, refl}
-use lib.ListN.{length, take, length-set}
+use lib.ListN.{length, length-set}
 use Rattle.lists.proofs.Length.{length_mapped}
-use Rattle.copy.specs.Copy.{ordinals_of}
 use Rattle.copy.proofs.Steps.{ordinals-next, ordinals_all}
 use borrow.Author.Rules.{rules}
 use Rattle.copy.proofs.Copy.ordinals.Goals as goal

@@ -1,7 +1,6 @@
 -- `read` meets its contract: a key past the last is refused.
 use borrow.Author.Tests.{lt-ltb, le-ltb}
 use Rattle.copy.specs.Copy.{read_of}
-use borrow.Author.Rules.{rules}
 use Rattle.copy.proofs.Copy.read.Goals as goal
 
 pub returns-then-key-gt-LAST_KEY : goal.returns-then-key-gt-LAST_KEY

@@ -1,6 +1,5 @@
 -- `take` meets its contract: the line's form decides.
 use Rattle.copy.proofs.Steps.{line-whole, line-bad}
-use borrow.Author.Rules.{rules}
 use Rattle.copy.proofs.Copy.take.Goals as goal
 
 pub returns-in-Whole : goal.returns-in-Whole

@@ -1,13 +1,9 @@
 -- `take_batch` meets its contract: what is left to take gives the whole.
 use Prim.Native.Nat.{◌-◌, ◌≤◌}
-use native.Mathlib.Omega.{arith}
-use mathlib.Core.Path.{◌≡◌, refl}
+use mathlib.Core.Path.{◌≡◌}
 use lib.ListN.{length, drop}
 use Rattle.message.specs.Line.{items_of}
-use Rattle.message.proofs.Batches.{batch_at}
 use Rattle.copy.specs.Copy.{take_items}
-use Rattle.copy.proofs.Steps.{items_over, items_next}
-use borrow.Author.Rules.{rules}
 use Rattle.copy.proofs.Copy.take_batch.Given as goal
 
 abbrev pub invariant-loop-i : goal.invariant-loop-i

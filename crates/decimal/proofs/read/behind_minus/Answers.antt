@@ -1,6 +1,5 @@
 -- `decimal::read::behind_minus` meets its contract.
 use Rattle.decimal.proofs.Steps.{negative-zero, negative-some, negative-bad}
-use borrow.Author.Rules.{rules}
 use Rattle.decimal.proofs.read.behind_minus.Goals as goal
 
 pub returns-then-m-eq0 : goal.returns-then-m-eq0

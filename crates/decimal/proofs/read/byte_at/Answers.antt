@@ -1,7 +1,6 @@
 -- `decimal::read::byte_at` meets its contract: past the end stands 0.
 use Prim.Native.Nat.{ℕ}
 use lib.ListN.{get_or-eq_default}
-use borrow.Author.Rules.{rules}
 use Rattle.decimal.proofs.read.byte_at.Goals as goal
 
 pub returns : goal.returns

@@ -2,7 +2,6 @@
 use mathlib.Core.Path.{sym, ◌∙◌}
 use borrow.Author.Tests.{not-true, not-false}
 use Rattle.decimal.proofs.Steps.{digits-end, digits-none, digits_over, digits_on}
-use borrow.Author.Rules.{rules}
 use Rattle.decimal.proofs.read.digits_at.Goals as goal
 
 pub returns-then-s-at : goal.returns-then-s-at

@@ -2,7 +2,6 @@
 use native.Mathlib.Omega.{arith}
 use mathlib.Core.Path.{sym, ◌∙◌}
 use Rattle.decimal.proofs.Steps.{byte_within, field_minus, field_plain}
-use borrow.Author.Rules.{rules}
 use Rattle.decimal.proofs.read.field_at.Goals as goal
 
 pub overflow_add-at : goal.overflow_add-at

@@ -4,7 +4,6 @@ use native.Mathlib.Omega.{arith}
 use mathlib.Core.Path.{sym}
 use borrow.Author.Tests.{lt-leb}
 use Rattle.decimal.proofs.Tests.{left_over}
-use borrow.Author.Rules.{rules}
 use Rattle.decimal.proofs.read.goes_in.Goals as goal
 
 pub returns-then-v-most : goal.returns-then-v-most

@@ -1,15 +1,8 @@
 -- `decimal::read::more_digits` meets its contract. The invariant: what is left to read gives the whole answer.
-use Prim.Native.Nat.{◌+◌, ◌-◌, ◌*◌, ◌≤◌}
-use native.Mathlib.Omega.{arith}
-use mathlib.Core.Path.{◌≡◌, refl, sym, ◌∙◌}
-use mathlib.Core.Bool.{true}
-use lib.Dec.{leb}
-use borrow.Author.Rules.{rules}
-use borrow.Author.Tests.{leb-true, not-true, not-false}
-use lib.ListN.{length, get_or, drop}
-use Rattle.decimal.specs.Text.{is_digit}
+use Prim.Native.Nat.{◌-◌}
+use mathlib.Core.Path.{◌≡◌}
+use lib.ListN.{length, drop}
 use Rattle.decimal.specs.Read.{more}
-use Rattle.decimal.proofs.Steps.{more-end, more_stop, more-zero, more_over, more_on}
 use Rattle.decimal.proofs.read.more_digits.Given as goal
 
 abbrev pub invariant-loop-i : goal.invariant-loop-i

@@ -1,7 +1,6 @@
 -- `decimal::read::natural_at` meets its contract.
 use Rattle.decimal.specs.Read.{as_natural}
 use Rattle.decimal.proofs.Values.{natural_is}
-use borrow.Author.Rules.{rules}
 use Rattle.decimal.proofs.read.natural_at.Goals as goal
 
 pub returns-in-Plus : goal.returns-in-Plus

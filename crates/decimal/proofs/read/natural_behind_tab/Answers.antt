@@ -3,7 +3,6 @@ use native.Mathlib.Omega.{arith}
 use borrow.Author.Tests.{eq-eqb, ne_eqb}
 use Rattle.decimal.specs.Read.{natural_behind_tab}
 use Rattle.decimal.proofs.Steps.{byte_within}
-use borrow.Author.Rules.{rules}
 use Rattle.decimal.proofs.read.natural_behind_tab.Goals as goal
 
 pub overflow_add-at : goal.overflow_add-at

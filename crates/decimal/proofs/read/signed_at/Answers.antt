@@ -1,6 +1,5 @@
 -- `decimal::read::signed_at` meets its contract: what was read in the range fits 32 bits.
 use Rattle.decimal.proofs.Values.{plus_small, minus_small, signed_plus, signed_minus, signed_bad}
-use borrow.Author.Rules.{rules}
 use Rattle.decimal.proofs.read.signed_at.Goals as goal
 
 pub overflow_cast-result : goal.overflow_cast-result

@@ -3,7 +3,6 @@ use native.Mathlib.Omega.{arith}
 use borrow.Author.Tests.{eq-eqb, ne_eqb}
 use Rattle.decimal.specs.Read.{signed_behind_tab}
 use Rattle.decimal.proofs.Steps.{byte_within}
-use borrow.Author.Rules.{rules}
 use Rattle.decimal.proofs.read.signed_behind_tab.Goals as goal
 
 pub overflow_add-at : goal.overflow_add-at

@@ -1,6 +1,5 @@
 -- `decimal::read::with_no_minus` meets its contract.
 use Rattle.decimal.proofs.Steps.{unsigned_in, unsigned_out, unsigned-bad}
-use borrow.Author.Rules.{rules}
 use Rattle.decimal.proofs.read.with_no_minus.Goals as goal
 
 pub returns-then-least-v : goal.returns-then-least-v

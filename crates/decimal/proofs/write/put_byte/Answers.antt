@@ -5,7 +5,6 @@ use mathlib.Core.Path.{sym}
 use mathlib.Core.List.{[], ◌∷◌}
 use lib.ListN.{length}
 use Rattle.decimal.proofs.Writing.{put_sets, put_full, wrote-room, wrote-full}
-use borrow.Author.Rules.{rules}
 use Rattle.decimal.proofs.write.put_byte.Goals as goal
 
 pub returns-then-at-buf : goal.returns-then-at-buf

@@ -5,7 +5,6 @@ use mathlib.Core.Path.{ap, sym, ◌∙◌}
 use borrow.Author.Tests.{leb-true, not-false}
 use lib.ListN.{length}
 use Rattle.decimal.proofs.Writing.{refuses, writes}
-use borrow.Author.Rules.{rules}
 use Rattle.decimal.proofs.write.put_natural.Goals as goal
 use Rattle.decimal.proofs.write.put_natural.Goals.{Else-not-has_room}
 

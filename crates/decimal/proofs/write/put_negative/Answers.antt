@@ -7,7 +7,6 @@ use lib.ListN.{length, length-set}
 use Rattle.decimal.specs.Text.{decimal}
 use Rattle.decimal.proofs.Digits.{decimal-length}
 use Rattle.decimal.proofs.Writing.{refuses, writes, behind}
-use borrow.Author.Rules.{rules}
 use Rattle.decimal.proofs.write.put_negative.Goals as goal
 use Rattle.decimal.proofs.write.put_negative.Goals.{After-width-w, Else-not-has_room}
 

@@ -4,7 +4,6 @@ use mir.Facts.{to_z-of_z}
 use Rattle.decimal.specs.Write.{sign_of}
 use Rattle.decimal.proofs.Values.{plain-plus, plain_minus}
 use Rattle.decimal.proofs.Writing.{as_text}
-use borrow.Author.Rules.{rules}
 use Rattle.decimal.proofs.write.put_signed.Goals as goal
 
 pub returns-in-Plus : goal.returns-in-Plus

@@ -1,11 +1,8 @@
 -- `decimal::write::put_text` meets its contract. The invariant: the bytes passed stand at their place.
-use Prim.Native.Nat.{◌+◌, ◌-◌, ◌≤◌}
 use native.Mathlib.Omega.{arith}
-use mathlib.Core.Path.{◌≡◌, refl}
-use lib.ListN.{length}
-use lib.Seq.{paste, paste-zero}
+use mathlib.Core.Path.{refl}
+use lib.Seq.{paste-zero}
 use Rattle.decimal.proofs.Writing.{roomy, refuses, copy-length, copy_more, copy_all}
-use borrow.Author.Rules.{rules}
 use Rattle.decimal.proofs.write.put_text.Goals as goal
 
 pub returns-then-not-has_room : goal.returns-then-not-has_room

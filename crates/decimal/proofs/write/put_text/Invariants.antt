@@ -1,11 +1,8 @@
 -- `decimal::write::put_text` meets its contract. The invariant: the bytes passed stand at their place.
 use Prim.Native.Nat.{◌+◌, ◌-◌, ◌≤◌}
-use native.Mathlib.Omega.{arith}
-use mathlib.Core.Path.{◌≡◌, refl}
+use mathlib.Core.Path.{◌≡◌}
 use lib.ListN.{length}
-use lib.Seq.{paste, paste-zero}
-use Rattle.decimal.proofs.Writing.{roomy, refuses, copy-length, copy_more, copy_all}
-use borrow.Author.Rules.{rules}
+use lib.Seq.{paste}
 use Rattle.decimal.proofs.write.put_text.Given as goal
 
 abbrev pub invariant-loop-i : goal.invariant-loop-i

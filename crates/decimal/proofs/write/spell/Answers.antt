@@ -1,9 +1,8 @@
 -- `decimal::write::spell` meets its contract. The invariant: storing the digits of what is left gives the whole.
-use Prim.Native.Nat.{◌+◌, ◌/◌, ◌≤◌, ◌<◌}
+use Prim.Native.Nat.{◌+◌, ◌/◌, ◌≤◌}
 use native.Mathlib.Omega.{arith}
 use mathlib.Core.Path.{◌≡◌, refl, ◌∙◌}
 use lib.ListN.{length, length-set}
-use lib.Seq.{sets}
 use Rattle.decimal.specs.Text.{decimal}
 use Rattle.decimal.proofs.Digits.{decimal-some}
 use Rattle.decimal.proofs.Writing.{length-step, spell-step, spell_last}

@@ -1,12 +1,9 @@
 -- `decimal::write::spell` meets its contract. The invariant: storing the digits of what is left gives the whole.
-use Prim.Native.Nat.{◌+◌, ◌/◌, ◌≤◌, ◌<◌}
-use native.Mathlib.Omega.{arith}
-use mathlib.Core.Path.{◌≡◌, refl, ◌∙◌}
-use lib.ListN.{length, length-set}
+use Prim.Native.Nat.{◌+◌, ◌<◌}
+use mathlib.Core.Path.{◌≡◌}
+use lib.ListN.{length}
 use lib.Seq.{sets}
 use Rattle.decimal.specs.Text.{decimal}
-use Rattle.decimal.proofs.Digits.{decimal-some}
-use Rattle.decimal.proofs.Writing.{length-step, spell-step, spell_last}
 use Rattle.decimal.proofs.write.spell.Given as goal
 
 abbrev pub invariant-loop-rest : goal.invariant-loop-rest

@@ -1,9 +1,5 @@
 -- `decimal::write::width` meets its contract. The invariant: the digits counted and those left are one more than all.
-use Prim.Native.Nat.{◌+◌}
 use native.Mathlib.Omega.{arith}
-use mathlib.Core.Path.{◌≡◌}
-use lib.ListN.{length}
-use Rattle.decimal.specs.Text.{decimal}
 use Rattle.decimal.proofs.Digits.{decimal-some, decimal-length}
 use Rattle.decimal.proofs.Writing.{length-step, length_one}
 use Rattle.decimal.proofs.write.width.Goals as goal

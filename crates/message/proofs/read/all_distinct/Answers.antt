@@ -1,11 +1,7 @@
 -- `all_distinct` meets its contract: what the versions not yet looked at answer is the whole answer.
-use Prim.Native.Nat.{◌-◌, ◌≤◌}
 use native.Mathlib.Omega.{arith}
-use mathlib.Core.Path.{◌≡◌, refl, sym, ◌∙◌}
-use borrow.Author.Rules.{rules}
-use lib.ListN.{length, drop}
+use mathlib.Core.Path.{refl, sym, ◌∙◌}
 use Rattle.message.specs.Line.{items_of}
-use Rattle.message.specs.Read.{distinct}
 use Rattle.message.proofs.Batches.{batch_at}
 use Rattle.message.proofs.Steps.{distinct_over, distinct_twice, distinct_on}
 use Rattle.message.proofs.read.all_distinct.Goals as goal

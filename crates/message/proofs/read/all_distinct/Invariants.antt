@@ -1,13 +1,9 @@
 -- `all_distinct` meets its contract: what the versions not yet looked at answer is the whole answer.
 use Prim.Native.Nat.{◌-◌, ◌≤◌}
-use native.Mathlib.Omega.{arith}
-use mathlib.Core.Path.{◌≡◌, refl, sym, ◌∙◌}
-use borrow.Author.Rules.{rules}
+use mathlib.Core.Path.{◌≡◌}
 use lib.ListN.{length, drop}
 use Rattle.message.specs.Line.{items_of}
 use Rattle.message.specs.Read.{distinct}
-use Rattle.message.proofs.Batches.{batch_at}
-use Rattle.message.proofs.Steps.{distinct_over, distinct_twice, distinct_on}
 use Rattle.message.proofs.read.all_distinct.Given as goal
 
 abbrev pub invariant-loop-i : goal.invariant-loop-i

@@ -1,6 +1,5 @@
 -- `ends` meets its contract: a newline stands within the line.
 use native.Mathlib.Omega.{arith}
-use borrow.Author.Rules.{rules}
 use borrow.Author.Tests.{eq-eqb, ne_eqb}
 use Rattle.decimal.proofs.Steps.{byte_within}
 use Rattle.message.specs.Read.{ends_at}

@@ -1,6 +1,5 @@
 -- `if_distinct` meets its contract.
 use mathlib.Core.Path.{sym, ◌∙◌}
-use borrow.Author.Rules.{rules}
 use Rattle.message.specs.Read.{message_if_distinct}
 use Rattle.message.proofs.read.if_distinct.Goals as goal
 

@@ -3,7 +3,6 @@ use native.Mathlib.Omega.{arith}
 use mir.Facts.{to_z-of_z}
 use Rattle.decimal.proofs.Tabs.{natural_small}
 use Rattle.message.proofs.Steps.{value-fits, item_no_key, item_no_ordinal, item_no_value, item_goes}
-use borrow.Author.Rules.{rules}
 use Rattle.message.proofs.read.item_at.Goals as goal
 
 pub returns-in_default : goal.returns-in_default

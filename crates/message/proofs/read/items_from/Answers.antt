@@ -1,9 +1,6 @@
 -- `items_from` meets its contract. The invariant: the versions seen make the batch, and what is left of the line gives the whole answer.
-use Prim.Native.Nat.{◌-◌}
-use native.Mathlib.Omega.{arith}
 use mathlib.Core.Path.{sym, ◌∙◌}
-use borrow.Author.Rules.{rules}
-use Rattle.message.proofs.Steps.{SoFar, nothing_yet, items_full, items_none, items_end, items_on}
+use Rattle.message.proofs.Steps.{nothing_yet, items_full, items_none, items_end, items_on}
 use Rattle.message.proofs.read.items_from.Goals as goal
 
 pub loop-n-init : goal.loop-n-init

@@ -1,11 +1,7 @@
 -- `key_from` meets its contract: what the versions not yet looked at answer is the whole answer.
-use Prim.Native.Nat.{◌-◌, ◌≤◌}
 use native.Mathlib.Omega.{arith}
-use mathlib.Core.Path.{◌≡◌, refl, sym, ◌∙◌}
-use borrow.Author.Rules.{rules}
+use mathlib.Core.Path.{refl, sym, ◌∙◌}
 use borrow.Author.Tests.{eq-eqb, ne_eqb}
-use lib.ListN.{length, drop}
-use Rattle.lists.specs.Lists.{any}
 use Rattle.lists.proofs.Any.{any_over, any_hit, any_miss}
 use Rattle.message.specs.Line.{items_of, no_item}
 use Rattle.message.specs.Read.{is_of_key}

@@ -1,15 +1,10 @@
 -- `key_from` meets its contract: what the versions not yet looked at answer is the whole answer.
 use Prim.Native.Nat.{◌-◌, ◌≤◌}
-use native.Mathlib.Omega.{arith}
-use mathlib.Core.Path.{◌≡◌, refl, sym, ◌∙◌}
-use borrow.Author.Rules.{rules}
-use borrow.Author.Tests.{eq-eqb, ne_eqb}
+use mathlib.Core.Path.{◌≡◌}
 use lib.ListN.{length, drop}
 use Rattle.lists.specs.Lists.{any}
-use Rattle.lists.proofs.Any.{any_over, any_hit, any_miss}
-use Rattle.message.specs.Line.{items_of, no_item}
+use Rattle.message.specs.Line.{items_of}
 use Rattle.message.specs.Read.{is_of_key}
-use Rattle.message.proofs.Batches.{batch_at}
 use Rattle.message.proofs.read.key_from.Given as goal
 
 abbrev pub invariant-loop-i : goal.invariant-loop-i

@@ -1,5 +1,4 @@
 -- `no_message` meets its contract.
-use borrow.Author.Rules.{rules}
 use Rattle.message.proofs.read.no_message.Goals as goal
 
 pub returns : goal.returns

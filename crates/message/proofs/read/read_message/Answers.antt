@@ -1,7 +1,6 @@
 -- `read_message` meets its contract: each answer is one step of `readLine`.
 use native.Mathlib.Omega.{arith}
 use mathlib.Core.Path.{sym, ◌∙◌}
-use borrow.Author.Rules.{rules}
 use Rattle.decimal.proofs.Tabs.{natural_small}
 use Rattle.message.proofs.Exactly.{message-answered}
 use Rattle.message.proofs.Steps.{line_no_letter, line_no_stamp, line_goes}

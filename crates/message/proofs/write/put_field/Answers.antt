@@ -1,6 +1,5 @@
 -- `put_field` meets its contract: a tab, and the number behind it.
 use Rattle.message.proofs.Putting.{field_next, field-full}
-use borrow.Author.Rules.{rules}
 use Rattle.message.proofs.write.put_field.Goals as goal
 
 pub returns-in_default : goal.returns-in_default

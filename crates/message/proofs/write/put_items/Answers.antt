@@ -1,13 +1,10 @@
 -- `put_items` meets its contract. The invariant: the versions passed stand behind one another, at most 27 bytes each.
-use Prim.Native.Nat.{◌+◌, ◌-◌, ◌*◌, ◌≤◌}
+use Prim.Native.Nat.{◌≤◌}
 use native.Mathlib.Omega.{arith}
-use mathlib.Core.Path.{◌≡◌}
-use borrow.Author.Rules.{rules}
-use lib.ListN.{length, take}
+use lib.ListN.{length}
 use Rattle.decimal.specs.Text.{joined}
-use Rattle.decimal.specs.Write.{Puts}
 use Rattle.decimal.proofs.Putting.{puts_length, puts_none}
-use Rattle.message.specs.Line.{items_of, items_text}
+use Rattle.message.specs.Line.{items_of}
 use Rattle.message.proofs.Batches.{batch_at}
 use Rattle.message.proofs.Putting.{items_more, items_all}
 use Rattle.message.proofs.write.put_items.Goals as goal

@@ -1,15 +1,9 @@
 -- `put_items` meets its contract. The invariant: the versions passed stand behind one another, at most 27 bytes each.
 use Prim.Native.Nat.{◌+◌, ◌-◌, ◌*◌, ◌≤◌}
-use native.Mathlib.Omega.{arith}
 use mathlib.Core.Path.{◌≡◌}
-use borrow.Author.Rules.{rules}
 use lib.ListN.{length, take}
-use Rattle.decimal.specs.Text.{joined}
 use Rattle.decimal.specs.Write.{Puts}
-use Rattle.decimal.proofs.Putting.{puts_length, puts_none}
 use Rattle.message.specs.Line.{items_of, items_text}
-use Rattle.message.proofs.Batches.{batch_at}
-use Rattle.message.proofs.Putting.{items_more, items_all}
 use Rattle.message.proofs.write.put_items.Given as goal
 
 abbrev pub invariant-loop-i : goal.invariant-loop-i

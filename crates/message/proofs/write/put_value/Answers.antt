@@ -1,7 +1,6 @@
 -- `put_value` meets its contract: a tab, and the number behind it.
 use mir.Facts.{to_z-of_z}
 use Rattle.message.proofs.Putting.{field_next, field-full}
-use borrow.Author.Rules.{rules}
 use Rattle.message.proofs.write.put_value.Goals as goal
 
 pub returns-in_default : goal.returns-in_default

@@ -1,7 +1,6 @@
 -- `write_message` meets its contract: the line as it stands in the local text is put at the front of the room.
 use Rattle.decimal.proofs.Putting.{puts_front, puts_taken, handed_whole, handed_full}
 use Rattle.message.specs.Write.{text_reply, bytes, refused}
-use borrow.Author.Rules.{rules}
 use Rattle.message.proofs.write.write_message.Goals as goal
 
 pub slice_bounds-put_text-end : goal.slice_bounds-put_text-end

@@ -1,7 +1,6 @@
 -- `record` meets its contract: each answer is a case of `recorded`.
 use borrow.Author.Tests.{lt-ltb, le-ltb}
 use Rattle.transaction.specs.Transaction.{recorded}
-use borrow.Author.Rules.{rules}
 use Rattle.transaction.proofs.Transaction.record.Goals as goal
 
 pub returns-then-n-lt-READS : goal.returns-then-n-lt-READS

@@ -2,7 +2,6 @@
 use borrow.Author.Tests.{lt-ltb, le-ltb}
 use mir.Facts.{to_z-of_z}
 use Rattle.transaction.specs.Transaction.{written}
-use borrow.Author.Rules.{rules}
 use Rattle.transaction.proofs.Transaction.write.Goals as goal
 
 pub returns-then-i-lt-WRITES : goal.returns-then-i-lt-WRITES

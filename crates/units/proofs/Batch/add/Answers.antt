@@ -1,7 +1,6 @@
 -- `add` meets its contract: there is room for one item more, or not.
 use borrow.Author.Tests.{lt-ltb, le-ltb}
 use Rattle.units.specs.Batch.{added}
-use borrow.Author.Rules.{rules}
 use Rattle.units.proofs.Batch.add.Goals as goal
 
 pub returns-then-n-lt-WRITES : goal.returns-then-n-lt-WRITES

@@ -1,6 +1,5 @@
 -- `show` meets its contract: a refusal goes by its number.
 use Rattle.verdict.proofs.Shown.{bytes_said, room_said}
-use borrow.Author.Rules.{rules}
 use Rattle.verdict.proofs.print.show.Goals as goal
 
 pub returns-in-Refused : goal.returns-in-Refused

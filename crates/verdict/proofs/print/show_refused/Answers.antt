@@ -1,6 +1,5 @@
 -- `show_refused` meets its contract: as many bytes as its line has, where it went in.
 use Rattle.verdict.proofs.Shown.{counted}
-use borrow.Author.Rules.{rules}
 use Rattle.verdict.proofs.print.show_refused.Goals as goal
 
 pub returns-in-Bytes : goal.returns-in-Bytes

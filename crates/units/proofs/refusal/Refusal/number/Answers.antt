@@ -1,6 +1,5 @@
 use mathlib.Core.Path.{sym, ap}
 use Rattle.units.specs.Refusal.{number_of}
-use borrow.Author.Rules.{rules}
 use Rattle.units.proofs.refusal.Refusal.number.Goals as goal
 
 -- src/refusal.rt:27:5
