@@ -12,9 +12,10 @@ mod table;
 mod word;
 
 use copy::Copy;
-use libc::{STDIN_FILENO, STDOUT_FILENO};
 use memory::WORDS;
 use say::alone;
+use std::io;
+use std::io::{ErrorKind, Read};
 use table::{REPLY, Table, front, play, tell};
 use units::Stamp;
 use word::UNKNOWN;
@@ -61,15 +62,22 @@ fn fill(input: &[u8], from: usize, line: &mut [u8], read: usize) -> Filled
 }
 
 // A line with n bytes before its newline. One that is too long is no step.
-fn play_line(line: &[u8], memory: &mut [u32; WORDS], out: &mut [u8], p: Table, n: usize) -> Table {
+fn play_line(
+    rt: &impl Print,
+    line: &[u8],
+    memory: &mut [u32; WORDS],
+    out: &mut [u8],
+    p: Table,
+    n: usize,
+) -> io::Result<Table> {
     let mut q = p;
-    let written = roomy(out, p.written);
+    let written = roomy(rt, out, p.written)?;
     q.written = written;
     q.read = 0;
     if n < LINE {
-        return play(front(line, n + 1), memory, out, q);
+        return Ok(play(front(line, n + 1), memory, out, q));
     }
-    tell(out, q, alone(UNKNOWN))
+    Ok(tell(out, q, alone(UNKNOWN)))
 }
 
 fn keep(line: &mut [u8], n: usize, b: u8) {
@@ -87,61 +95,80 @@ fn longer(n: usize) -> usize {
 }
 
 // Room for one reply more: what is written goes out where there is too little.
-fn roomy(out: &mut [u8], written: usize) -> usize {
+fn roomy(rt: &impl Print, out: &mut [u8], written: usize) -> io::Result<usize> {
     if written < OUTPUT - REPLY {
-        return written;
+        return Ok(written);
     }
-    io::write_all(STDOUT_FILENO, front(out, written));
-    0
+    rt.write_all(front(out, written))?;
+    Ok(0)
 }
 
 fn feed_all(
+    rt: &impl Print,
     input: &[u8],
     line: &mut [u8],
     memory: &mut [u32; WORDS],
     out: &mut [u8],
     p: Table,
-) -> Table {
+) -> io::Result<Table> {
     let mut q = p;
     let mut i = 0;
     while i < input.len() {
         let f = fill(input, i, line, q.read);
         i = f.at;
         if f.ended {
-            q = play_line(line, memory, out, q, f.read);
+            q = play_line(rt, line, memory, out, q, f.read)?;
         } else {
             q.read = f.read;
         }
     }
-    q
+    Ok(q)
 }
 
-// One read of the input, played; `more` says whether there was any.
+// One read of the input, played; `more` says whether the input may go on.
 #[derive(Clone, Copy)]
 struct Turn {
     more: bool,
     play: Table,
 }
 
-fn one_turn(line: &mut [u8], memory: &mut [u32; WORDS], out: &mut [u8], p: Table) -> Turn {
+// A read that a signal interrupts is none. Before any other error goes up, what is written goes out.
+fn one_turn(
+    rt: &impl Print,
+    from: &mut impl Read,
+    line: &mut [u8],
+    memory: &mut [u32; WORDS],
+    out: &mut [u8],
+    p: Table,
+) -> io::Result<Turn> {
     let mut input = [0u8; INPUT];
-    let got = libc::read(STDIN_FILENO, &mut input);
-    let n = io::count(got, &input);
-    if n == 0 {
-        return Turn {
+    match from.read(&mut input) {
+        Ok(0) => Ok(Turn {
             more: false,
             play: p,
-        };
-    }
-    let q = feed_all(&input[..n], line, memory, out, p);
-    Turn {
-        more: true,
-        play: q,
+        }),
+        Ok(n) => {
+            let q = feed_all(rt, &input[..n], line, memory, out, p)?;
+            Ok(Turn {
+                more: true,
+                play: q,
+            })
+        }
+        Err(e) => {
+            if e.kind() == ErrorKind::Interrupted {
+                return Ok(Turn {
+                    more: true,
+                    play: p,
+                });
+            }
+            rt.write_all(front(out, p.written))?;
+            Err(e)
+        }
     }
 }
 
 // A proved loop has to end, and nothing says that an input does: it counts its turns down from a number that no run uses up.
-fn main() {
+fn main(rt: HostRuntime) -> io::Result<()> {
     let mut memory = [0u32; WORDS];
     desk::open(&mut memory, Stamp(0));
     let mut line = [0u8; LINE];
@@ -158,10 +185,10 @@ fn main() {
             more = false;
         } else {
             turns -= 1;
-            let t = one_turn(&mut line, &mut memory, &mut out, p);
+            let t = one_turn(&rt, &mut rt.stdin(), &mut line, &mut memory, &mut out, p)?;
             p = t.play;
             more = t.more;
         }
     }
-    io::write_all(STDOUT_FILENO, front(&out, p.written));
+    rt.write_all(front(&out, p.written))
 }

@@ -3,11 +3,14 @@
 // were granted, and a sum over all answers. bench/transactions.py measures it.
 #![tactic(auto)]
 
+ghost use Rattle.std.specs.Prelude.{◌≤◌, IfOk, length};
+
 use decimal::Natural;
 use desk::{DoneAnswer, StartAnswer};
-use libc::{STDIN_FILENO, STDOUT_FILENO};
 use master::{CommitAnswer, ReadAnswer};
 use memory::{WORDS, word_of};
+use std::io;
+use std::io::{ErrorKind, Read};
 use std::num::wrapping_add_u32;
 use units::{Refusal, Stamp};
 
@@ -26,26 +29,50 @@ struct Tally {
     sum: u64,
 }
 
-fn main() {
+fn main(rt: HostRuntime) -> io::Result<()> {
     let mut memory = [0u32; WORDS];
     let mut input = [0u8; INPUT];
-    let n = io::read_full(STDIN_FILENO, &mut input);
-    play_lines(&mut memory, &input[..n]);
+    let n = read_full(&mut rt.stdin(), &mut input)?;
+    play_lines(&rt, &mut memory, &input[..n])
 }
 
-fn play_lines(memory: &mut [u32; WORDS], s: &[u8]) {
+// Reads until `buf` is full or the input ends, and returns how many bytes it put at the start of `buf`. A read that a signal
+// interrupts is made again.
+fn read_full(input: &mut impl Read, buf: &mut [u8]) -> io::Result<usize>
+    ensures { IfOk result (λ n. n ≤ length buf.new) }
+{
+    let mut done = 0;
+    for _ in 0..u64::MAX {
+        if done == buf.len() {
+            break;
+        }
+        match input.read(&mut buf[done..]) {
+            Ok(0) => break,
+            Ok(n) => done += n,
+            Err(e) => {
+                if e.kind() != ErrorKind::Interrupted {
+                    return Err(e);
+                }
+            }
+        }
+    }
+    Ok(done)
+}
+
+fn play_lines(rt: &impl Print, memory: &mut [u32; WORDS], s: &[u8]) -> io::Result<()> {
     let mut start = 0;
     let mut i = 0;
     while i < s.len() {
         if s[i] == b'\n' {
-            play_line(memory, &s[start..i]);
+            play_line(rt, memory, &s[start..i])?;
             start = i + 1;
         }
         i += 1;
     }
+    Ok(())
 }
 
-fn play_line(memory: &mut [u32; WORDS], line: &[u8]) {
+fn play_line(rt: &impl Print, memory: &mut [u32; WORDS], line: &[u8]) -> io::Result<()> {
     let first = decimal::natural_at(line, 0, 0, MOST);
     match first {
         Natural::Number(count, e) => {
@@ -53,15 +80,15 @@ fn play_line(memory: &mut [u32; WORDS], line: &[u8]) {
             match second {
                 Natural::Number(every, end) => {
                     if end == line.len() {
-                        say(play(memory, short(count), short(every)));
+                        say(rt, play(memory, short(count), short(every)))
                     } else {
-                        unknown();
+                        unknown(rt)
                     }
                 }
-                Natural::Bad => unknown(),
+                Natural::Bad => unknown(rt),
             }
         }
-        Natural::Bad => unknown(),
+        Natural::Bad => unknown(rt),
     }
 }
 
@@ -69,15 +96,12 @@ fn short(n: u64) -> u32 {
     (n % MODULUS) as u32
 }
 
-fn say(t: Tally) {
-    io::print_decimal(STDOUT_FILENO, t.granted as u64);
-    io::write_all(STDOUT_FILENO, b" ");
-    io::print_decimal(STDOUT_FILENO, t.sum);
-    io::write_all(STDOUT_FILENO, b"\n");
+fn say(rt: &impl Print, t: Tally) -> io::Result<()> {
+    println!(rt; "{} {}", t.granted, t.sum)
 }
 
-fn unknown() {
-    io::write_all(STDOUT_FILENO, b"unknown\n");
+fn unknown(rt: &impl Print) -> io::Result<()> {
+    rt.write_all(b"unknown\n")
 }
 
 fn play(memory: &mut [u32; WORDS], count: u32, every: u32) -> Tally {
