@@ -1,6 +1,5 @@
 // The judge reads a history line by line from a place that it remembers: document 01, "What form each place takes". A reader holds the lent history
-// and the place. The borrow checker covers no function over such a struct, so next is proved by hand; what is done at the place is
-// history::line_at's, which is covered.
+// and the place; what is done at the place is history::line_at's.
 #![tactic(auto)]
 
 ghost use Rattle.std.specs.Prelude.{◌≡◌};

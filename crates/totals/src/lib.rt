@@ -1,6 +1,5 @@
 // The totals of a written history, raised one line at a time. A struct of four counters is lent by &mut to one small function for each
-// record that moves them: document 01, "What form each place takes". The borrow checker covers no function over a struct behind a
-// reference, so these are proved by hand.
+// record that moves them: document 01, "What form each place takes".
 #![tactic(auto)]
 
 ghost use Rattle.std.specs.Prelude.{◌+◌, ◌-◌, min, ◌≡◌};

@@ -78,7 +78,7 @@ fn finish(room: &mut [u8], memory: &[u32; WORDS], totals: Totals) -> Answer
 }
 
 // The lines from the first on, and the memory as it is lent. One reader goes from the first line to the last, and the totals are the ones that are
-// handed over at the end: both are lent to the functions that move them, so this is proved by hand.
+// handed over at the end: both are lent to the functions that move them.
 fn run(text: &[u8], memory: &mut [u32; WORDS]) -> Ran
     ensures { pass_end (ran_to result memory.new) memory.new ≡ passes text.now 0 1 no_totals memory.old }
 {
