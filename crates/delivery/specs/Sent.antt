@@ -20,7 +20,7 @@ abbrev pub plain_item : Entry → Item
 plain_item e = record { key = e.key; ordinal = record { 0 = e.ordinal }; value = e.value }
 
 -- the line that a master with this log sends for a stamp; in a log that a session reaches no commit made more than 16 versions and no key is
--- above 63, so that the line is the text of all of them as they are (`message-all`)
+-- above 63, so that the line is the text of all of them as they are (`message_all`)
 unfoldable pub message_at : List Entry → ℕ → List ℕ
 message_at log stamp = message_text stamp (map item_of (take 16 (made_at log stamp)))
 

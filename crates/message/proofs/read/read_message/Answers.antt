@@ -1,4 +1,4 @@
--- `read_message` meets its contract: each answer is one step of `readLine`.
+-- `read_message` meets its contract: each answer is one step of `read_line`.
 use native.Mathlib.Omega.{arith}
 use mathlib.Core.Path.{sym, ◌∙◌}
 use Rattle.decimal.proofs.Tabs.{natural_small}
