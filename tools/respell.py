@@ -1,7 +1,7 @@
 #!/usr/bin/env python3
 """Brings the repository's own definitions and lemmas to today's spelling: words in snake case, a dash only between two names.
 
-Run once, at the top, right after /opt/rattle/port/port.py: `python3 tools/respell.py`. It goes by text and by whole names, over the .rt and .antt files of
+Run once, at the top, right after the kit's port/port.py: `python3 tools/respell.py`. It goes by text and by whole names, over the .rt and .antt files of
 crates/ (in a .rt file not inside strings). Functions of src/ keep their names.
 """
 import pathlib
