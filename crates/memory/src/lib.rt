@@ -9,7 +9,7 @@ ghost use Rattle.memory.specs.Layout.{word_count};
 ghost use Rattle.memory.specs.Memory.{base_of, loaded, stored, mark_at, write_at, tab, words_of_mark, words_of_write, row_words};
 
 use transaction::{Mark, Transaction, Write};
-use units::{Bounds, Ordinal, Stamp, at_most, limits};
+use units::{Bounds, Ordinal, Stamp, limits};
 
 mod layout;
 
@@ -22,7 +22,7 @@ pub use layout::{
 pub fn base_of(place: usize) -> usize
     ensures { result ≡ base_of place }
 {
-    DESK + PLACE * at_most(place, limits::DESK - 1)
+    DESK + PLACE * place.min(limits::DESK - 1)
 }
 
 // Two's complement.
