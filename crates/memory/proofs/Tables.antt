@@ -42,10 +42,6 @@ pub sets_append : {A : Type 0} (l : List A) (at : ℕ) (xs ys : List A) → sets
 sets_append l at [] ys = rw add-zero
 sets_append l at (x ∷ xs) ys = rw (add-suc at (length xs), ← suc-add at (length xs)) (sets_append (set l at x) (suc at) xs ys)
 
--- in a row of n, each w wide, the i-th is within it
-pub within_row : (w i n : ℕ) → i < n → w * i + w ≤ w * n
-within_row w i n h = let k : w * (i + 1) ≤ w * n = mul-le-mul_left w (omega arith) in rw (add-one i, mul-suc w i) at k
-
 -- a row laid down from its i-th on
 module _ {A : Type 0} (f : A → List ℕ) (w : ℕ) (as_many : (x : A) → length (f x) ≡ w) where
   pub row-step : (ws : List ℕ) (from i : ℕ) (l : List A) (x : A) → i < length l → get_or l i x ≡ x
