@@ -16,6 +16,11 @@ use Rattle.units.specs.declared.Bounds.{Bounds}
 use Rattle.units.specs.declared.Triple.{Triple}
 use Rattle.units.specs.declared.Triple.TheVariants.{Taken, Refused}
 use Rattle.units.specs.declared.refusal.Refusal.{Refusal}
+use Rattle.units.specs.declared.refusal.Refusal.TheVariants.{ClockSpent}
+use Rattle.units.specs.declared.Stamp.{Stamp}
+use Rattle.std.specs.Prelude.{Option, Some, None, SomeIff, MatchOption, IsSomeAnd}
+use Rattle.std.specs.Option.{ok_or}
+use Rattle.desk.specs.Desk.{start_reply}
 use Rattle.transaction.specs.Transaction.{fresh, ended, tuned, written, wrote_at}
 use Rattle.model.specs.State.{free_place}
 use Rattle.memory.specs.Memory.{loaded, stored, places_of, state_of}
@@ -30,13 +35,14 @@ module _ (ws : List ℕ) where
   unfolding step checks_of final_of order
   start-full h = rw (le-leb _ _ h)
 
-  pub start-spent : free_place (places_of ws) < 32 → get_or ws 0 0 ≡ 4294967295 → refused 5 ≡ (step (state_of ws) Start).reply
+  -- the clock's next stamp, or 5 where there is none
+  pub start-next : {P : ℕ → Stamp → Type 0} → ((x : ℕ) (s : Stamp) → P x s → s.0 ≡ x) → (next : Option ℕ) (name : Option Stamp) → free_place (places_of ws) < 32 → get_or ws 0 0 < 4294967296
+      → SomeIff next (get_or ws 0 0 + 1 < 4294967296) (get_or ws 0 0 + 1) → MatchOption next (name ≡ None) (λ x. IsSomeAnd name (P x))
+      → start_reply (ok_or name ClockSpent) ≡ (step (state_of ws) Start).reply
   unfolding step checks_of final_of order
-  start-spent h e = rw (lt-leb 32 _ h, eq-eqb _ _ e)
-
-  pub start_goes : free_place (places_of ws) < 32 → (get_or ws 0 0 ≡ 4294967295 → ⊥) → started (get_or ws 0 0 + 1) ≡ (step (state_of ws) Start).reply
-  unfolding step checks_of final_of order
-  start_goes h e = rw (lt-leb 32 _ h, ne_eqb _ _ e, add-one)
+  start-next q None name h f k e = let spent : get_or ws 0 0 ≡ 4294967295 = omega arith in rw (e, lt-leb 32 _ h, eq-eqb _ _ spent)
+  start-next q (Some x) None h f k e = absurd e
+  start-next q (Some x) (Some s) h f k e = let more : (get_or ws 0 0 ≡ 4294967295 → ⊥) = (λ z. absurd (omega arith)) in rw (q x s e, k.1, lt-leb 32 _ h, ne_eqb _ _ more, add-one)
 
   module _ (n k : ℕ) (v : ℤ) where
     pub write-nobody : 32 ≤ at ws n → refused 1 ≡ (step (state_of ws) (Write n k v)).reply

@@ -1,17 +1,11 @@
-use Rattle.desk.proofs.Laws.{write-after, refused-stays}
-use mathlib.Core.Path.{ap, sym, ◌∙◌}
+-- `write` meets its contract: what was decided is done, or nothing is.
 use mir.Facts.{to_z-of_z}
-use Rattle.desk.specs.Desk.{done_reply}
+use Rattle.desk.proofs.Laws.{write-after, refused-stays}
 use Rattle.desk.proofs.write.Goals as goal
 
--- src/lib.rt:166:1
-pub returns-in-Done : goal.returns-in-Done
-returns-in-Done c =
-    let v = c.args.value in
-    let reply = sym (ap done_reply c.in-Done.is) ∙ c.decide_write-d.ensures.reply v in record { reply = reply; memory = write-after _ _ _ _ _ v reply c.decide_write-d.ensures.place (rw (to_z-of_z c.ranges.value) at c.change_write.ensures) }
+pub returns-in_err-d-clause-memory : goal.returns-in_err-d-clause-memory
+returns-in_err-d-clause-memory c = refused-stays _ _ _ (rw c.in_err-d.was at (c.decide_write-d.ensures.reply c.args.value))
 
--- src/lib.rt:166:1
-pub returns-in-Refused : goal.returns-in-Refused
-returns-in-Refused c =
-    let v = c.args.value in
-    let reply = sym (ap done_reply c.in-Refused.is) ∙ c.decide_write-d.ensures.reply v in record { reply = reply; memory = refused-stays _ _ _ reply }
+pub returns-clause-memory : goal.returns-clause-memory
+returns-clause-memory c =
+    write-after _ _ _ _ _ c.args.value (rw c.in_ok-d.was at (c.decide_write-d.ensures.reply c.args.value)) c.decide_write-d.ensures.place (rw (to_z-of_z c.ranges.value) at c.change_write.ensures)
