@@ -132,3 +132,10 @@ module _ (ws : List ℕ) where
 pub clear_step : (ws us : List ℕ) (i : ℕ) → us ≡ stored (cleared ws i) i (ended (fresh 0)) → us ≡ cleared ws (i + 1)
 unfolding cleared
 clear_step ws us i e = e ∙ rw (add-one i)
+
+-- what the check finds the calls' answers by
+pub ruleset decided = (start-full, write-nobody, write_no_key, write-full, write_goes, tune-nobody, abort-nobody, abort_goes)
+
+pub ruleset done_so = (refused-stays, start-after, write-after, tune-after, abort-after)
+
+

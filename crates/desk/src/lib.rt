@@ -32,6 +32,7 @@ pub fn open(memory: &mut [u32; WORDS], clock: Stamp)
 }
 
 // Every place holds a transaction that has ended.
+#[tactic(auto, using(crate::proofs::Laws::clear_step), unfolding(words::specs::After::cleared))]
 fn clear(memory: &mut [u32; WORDS])
     ensures { memory.new ≡ cleared memory.old 32 }
 {
@@ -40,6 +41,7 @@ fn clear(memory: &mut [u32; WORDS])
     }
 }
 
+#[tactic(auto, using(crate::proofs::Laws::decided))]
 pub fn decide_start(memory: &[u32; WORDS]) -> Decided<Stamp, Refusal>
     ensures reply { start_reply result.answer ≡ (step (state_of memory.now) Start).reply }
     ensures place { result.place ≡ free_place (places_of memory.now) }
@@ -60,6 +62,7 @@ pub fn change_start(memory: &mut [u32; WORDS], place: usize, name: Stamp)
     memory[CLOCK] = name.0;
 }
 
+#[tactic(auto, using(crate::proofs::Laws::done_so))]
 pub fn start(memory: &mut [u32; WORDS]) -> Result<Stamp, Refusal>
     ensures reply { start_reply result ≡ (step (state_of memory.old) Start).reply }
     ensures memory { memory.new ≡ after memory.old Start }
@@ -70,6 +73,7 @@ pub fn start(memory: &mut [u32; WORDS]) -> Result<Stamp, Refusal>
     Ok(name)
 }
 
+#[tactic(auto, using(crate::proofs::Laws::decided))]
 pub fn decide_write(memory: &[u32; WORDS], name: Stamp, key: u32) -> Decided<(), Refusal>
     ensures reply { (v : ℤ) → done_reply result.answer ≡ (step (state_of memory.now) (Write name.0 key v)).reply }
     ensures place { result.place ≡ place_of (places_of memory.now) name.0 }
@@ -95,6 +99,7 @@ pub fn change_write(memory: &mut [u32; WORDS], place: usize, key: u32, value: i3
     store(memory, place, t.write(key, value));
 }
 
+#[tactic(auto, using(crate::proofs::Laws::done_so))]
 pub fn write(memory: &mut [u32; WORDS], name: Stamp, key: u32, value: i32) -> Result<(), Refusal>
     ensures reply { done_reply result ≡ (step (state_of memory.old) (Write name.0 key value)).reply }
     ensures memory { memory.new ≡ after memory.old (Write name.0 key value) }
@@ -105,6 +110,7 @@ pub fn write(memory: &mut [u32; WORDS], name: Stamp, key: u32, value: i32) -> Re
     Ok(())
 }
 
+#[tactic(auto, using(crate::proofs::Laws::decided))]
 pub fn decide_tune(memory: &[u32; WORDS], name: Stamp, k1: u16, k2: u16, k3: u16) -> Decided<(), Refusal>
     ensures reply { done_reply result.answer ≡ (step (state_of memory.now) (Tune name.0 k1 k2 k3)).reply }
     ensures place { result.place ≡ place_of (places_of memory.now) name.0 }
@@ -129,6 +135,7 @@ pub fn change_tune(memory: &mut [u32; WORDS], place: usize, bounds: Bounds)
     store(memory, place, t.tune(bounds));
 }
 
+#[tactic(auto, using(crate::proofs::Laws::done_so))]
 pub fn tune(memory: &mut [u32; WORDS], name: Stamp, k1: u16, k2: u16, k3: u16) -> Result<(), Refusal>
     ensures reply { done_reply result ≡ (step (state_of memory.old) (Tune name.0 k1 k2 k3)).reply }
     ensures memory { memory.new ≡ after memory.old (Tune name.0 k1 k2 k3) }
@@ -139,6 +146,7 @@ pub fn tune(memory: &mut [u32; WORDS], name: Stamp, k1: u16, k2: u16, k3: u16) -
     Ok(())
 }
 
+#[tactic(auto, using(crate::proofs::Laws::decided))]
 pub fn decide_abort(memory: &[u32; WORDS], name: Stamp) -> Decided<(), Refusal>
     ensures reply { done_reply result.answer ≡ (step (state_of memory.now) (Abort name.0)).reply }
     ensures place { result.place ≡ place_of (places_of memory.now) name.0 }
@@ -159,6 +167,7 @@ pub fn change_end(memory: &mut [u32; WORDS], place: usize)
     memory[b + LIVE] = 0;
 }
 
+#[tactic(auto, using(crate::proofs::Laws::done_so))]
 pub fn abort(memory: &mut [u32; WORDS], name: Stamp) -> Result<(), Refusal>
     ensures reply { done_reply result ≡ (step (state_of memory.old) (Abort name.0)).reply }
     ensures memory { memory.new ≡ after memory.old (Abort name.0) }

@@ -1,12 +1,9 @@
 -- `decide_start` meets its contract: refusals 3 and 5 in that order, or the next stamp.
 use mathlib.Core.Path.{ap, ◌∙◌}
 use Rattle.desk.specs.Desk.{start_reply}
-use Rattle.desk.proofs.Laws.{start-full, start-next}
+use Rattle.desk.proofs.Laws.{start-next}
 use borrow.Author.Rules.{rules}
 use Rattle.desk.proofs.decide_start.Goals as goal
-
-pub returns-then-place-ge-DESK-clause-reply : goal.returns-then-place-ge-DESK-clause-reply
-returns-then-place-ge-DESK-clause-reply c = ap start_reply c.refuse.ensures.0 ∙ start-full _ (rw c.free_place-place.ensures at c.if-place-ge-DESK.true)
 
 pub returns-clause-reply : goal.returns-clause-reply
 returns-clause-reply c = ap start_reply c.ok_or-answer.ensures.value ∙ start-next _ (λ x s p. search rules) _ _ (rw c.free_place-place.ensures at c.if-place-ge-DESK.false) (search rules) c.checked_add-next.ensures c.map.ensures.cases
