@@ -13,14 +13,12 @@ use Rattle.units.specs.Refusal.{number_of}
 use Rattle.units.specs.Bounds as triples
 use Rattle.units.specs.Bounds.{triple, bounded, triple_reply}
 use Rattle.units.specs.declared.Bounds.{Bounds}
-use Rattle.units.specs.declared.Triple.{Triple}
-use Rattle.units.specs.declared.Triple.TheVariants.{Taken, Refused}
 use Rattle.units.specs.declared.refusal.Refusal.{Refusal}
 use Rattle.units.specs.declared.refusal.Refusal.TheVariants.{ClockSpent}
 use Rattle.units.specs.declared.Stamp.{Stamp}
-use Rattle.std.specs.Prelude.{Option, Some, None, SomeIff, MatchOption, IsSomeAnd}
+use Rattle.std.specs.Prelude.{Option, Some, None, Result, Ok, Err, SomeIff, MatchOption, MatchResult, IsSomeAnd, IsOkAnd}
 use Rattle.std.specs.Option.{ok_or}
-use Rattle.desk.specs.Desk.{start_reply}
+use Rattle.desk.specs.Desk.{start_reply, done_reply}
 use Rattle.transaction.specs.Transaction.{fresh, ended, tuned, written, wrote_at}
 use Rattle.model.specs.State.{free_place}
 use Rattle.memory.specs.Memory.{loaded, stored, places_of, state_of}
@@ -68,22 +66,20 @@ module _ (ws : List ℕ) where
     tune-nobody h = rw (le-leb _ _ h)
 
     -- what the constructor of a triple answers is what tune answers, of an open transaction
-    module _ (live : at ws n < 32) (r : Triple) (e : triple_reply r ≡ bounded k1 k2 k3) where
-      pub tune-refused : (f : Refusal) → r ≡ Refused f → refused (number_of f) ≡ (step (state_of ws) (Tune n k1 k2 k3)).reply
-      unfolding step checks_of final_of order bounded
-      tune-refused f q = go (eqb k1 0) refl (rw q at e)
-        where
-          go : (b : Bool) → eqb k1 0 ≡ b → triples.refused (number_of f) ≡ cond b (triples.refused 9) (triples.taken (triple k1 k2 k3)) → refused (number_of f) ≡ (step (state_of ws) (Tune n k1 k2 k3)).reply
-          go true z h = let y : number_of f ≡ 9 = cc in rw (lt-leb 32 _ live, z, y)
-          go false z h = let y : ◌≡◌ {A = ℕ} 0 1 = cc in absurd (omega arith)
-
-      pub tune-taken : (b : Bounds) → r ≡ Taken b → done ≡ (step (state_of ws) (Tune n k1 k2 k3)).reply
-      unfolding step checks_of final_of order bounded
-      tune-taken b q = go (eqb k1 0) refl (rw q at e)
-        where
-          go : (t : Bool) → eqb k1 0 ≡ t → triples.taken b ≡ cond t (triples.refused 9) (triples.taken (triple k1 k2 k3)) → done ≡ (step (state_of ws) (Tune n k1 k2 k3)).reply
-          go true z h = let y : ◌≡◌ {A = ℕ} 0 1 = cc in absurd (omega arith)
-          go false z h = rw (lt-leb 32 _ live, z)
+    pub tune-bounded : (P : Bounds → Unit {0} → Type 0) → at ws n < 32 → (r : Result Bounds Refusal) (a : Result (Unit {0}) Refusal) → triple_reply r ≡ bounded k1 k2 k3
+        → MatchResult r (λ b. IsOkAnd a (P b)) (λ f. a ≡ Err f) → done_reply a ≡ (step (state_of ws) (Tune n k1 k2 k3)).reply
+    unfolding step checks_of final_of order bounded
+    tune-bounded P live (Ok b) (Ok u) e m = go (eqb k1 0) refl e
+      where
+        go : (t : Bool) → eqb k1 0 ≡ t → triples.taken b ≡ cond t (triples.refused 9) (triples.taken (triple k1 k2 k3)) → done ≡ (step (state_of ws) (Tune n k1 k2 k3)).reply
+        go true z h = let y : ◌≡◌ {A = ℕ} 0 1 = cc in absurd (omega arith)
+        go false z h = rw (lt-leb 32 _ live, z)
+    tune-bounded P live (Ok b) (Err f) e m = absurd m
+    tune-bounded P live (Err f) a e m = rw m (go (eqb k1 0) refl e)
+      where
+        go : (t : Bool) → eqb k1 0 ≡ t → triples.refused (number_of f) ≡ cond t (triples.refused 9) (triples.taken (triple k1 k2 k3)) → refused (number_of f) ≡ (step (state_of ws) (Tune n k1 k2 k3)).reply
+        go true z h = let y : number_of f ≡ 9 = cc in rw (lt-leb 32 _ live, z, y)
+        go false z h = let y : ◌≡◌ {A = ℕ} 0 1 = cc in absurd (omega arith)
 
   module _ (n : ℕ) where
     pub abort-nobody : 32 ≤ at ws n → refused 1 ≡ (step (state_of ws) (Abort n)).reply

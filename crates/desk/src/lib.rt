@@ -13,7 +13,7 @@ ghost use Rattle.desk.specs.Desk.{start_reply, done_reply};
 use memory::{CLOCK, LENGTH, LIVE, WORDS, base_of, load, store};
 use places::{free_place, place_of};
 use transaction::Transaction;
-use units::{Bounds, Refusal, Stamp, Triple, limits};
+use units::{Bounds, Refusal, Stamp, limits};
 
 // What a call would answer, and the place that it looked for: the first free one, or that of the open transaction of a name.
 #[derive(Clone, Copy)]
@@ -119,13 +119,8 @@ pub fn decide_tune(memory: &[u32; WORDS], name: Stamp, k1: u16, k2: u16, k3: u16
     if limits::DESK <= place {
         return refuse(place, Refusal::NoTransaction);
     }
-    match Bounds::new(k1, k2, k3) {
-        Triple::Refused(refusal) => refuse(place, refusal),
-        Triple::Taken(_) => Decided {
-            answer: Ok(()),
-            place,
-        },
-    }
+    let answer = Bounds::new(k1, k2, k3).map(|_| ());
+    Decided { answer, place }
 }
 
 pub fn change_tune(memory: &mut [u32; WORDS], place: usize, bounds: Bounds)
