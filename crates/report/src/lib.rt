@@ -14,13 +14,6 @@ use decimal::{NEWLINE, Put, put_byte, put_natural, put_text};
 use records::Totals;
 use units::Refusal;
 
-// The length of the text, or NoRoom where the lent room is shorter.
-#[derive(Clone, Copy)]
-pub enum Written {
-    Bytes(usize),
-    Refused(Refusal),
-}
-
 const SPACE: u8 = b' ';
 
 // Room for any report: 27 bytes for its head, 24 for each of 512 verdicts, 90 for its totals, since a number is at most 20 digits.
@@ -29,8 +22,8 @@ const LONGEST: usize = 12405;
 // Room for any refusal: 8 bytes for its word, 21 for each number.
 const LONGEST_REFUSED: usize = 50;
 
-// The verdicts that stand in the judge's memory, in order of commit lines.
-pub fn write_report(room: &mut [u8], memory: &[u32; WORDS], totals: Totals) -> Written
+// The verdicts that stand in the judge's memory, in order of commit lines; the length of the text, or NoRoom where the lent room is shorter.
+pub fn write_report(room: &mut [u8], memory: &[u32; WORDS], totals: Totals) -> Result<usize, Refusal>
     ensures reply { written_reply result ≡ written_as room.old (report_text (reverse (judged_in memory.now)) totals) }
     ensures buffer { room.new ≡ put room.old 0 (report_text (reverse (judged_in memory.now)) totals) }
 {
@@ -39,8 +32,8 @@ pub fn write_report(room: &mut [u8], memory: &[u32; WORDS], totals: Totals) -> W
     hand_over(room, &text[..end])
 }
 
-// A refusal's number and its line.
-pub fn write_refused(room: &mut [u8], number: u8, line: u32) -> Written
+// A refusal's number and its line; the length of the text, or NoRoom.
+pub fn write_refused(room: &mut [u8], number: u8, line: u32) -> Result<usize, Refusal>
     ensures reply { written_reply result ≡ written_as room.old (refused_text number line) }
     ensures buffer { room.new ≡ put room.old 0 (refused_text number line) }
 {
@@ -50,14 +43,14 @@ pub fn write_refused(room: &mut [u8], number: u8, line: u32) -> Written
 }
 
 // A text at the front of the room, where it fits.
-fn hand_over(room: &mut [u8], text: &[u8]) -> Written
+fn hand_over(room: &mut [u8], text: &[u8]) -> Result<usize, Refusal>
     ensures reply { written_reply result ≡ written_as room.old text.now }
     ensures buffer { room.new ≡ put room.old 0 text.now }
 {
     let Put::Next(n) = put_text(room, 0, text) else {
-        return Written::Refused(Refusal::NoRoom);
+        return Err(Refusal::NoRoom);
     };
-    Written::Bytes(n)
+    Ok(n)
 }
 
 fn put_report(text: &mut [u8], memory: &[u32; WORDS], totals: Totals) -> usize
@@ -103,10 +96,8 @@ fn put_verdicts(text: &mut [u8], at: usize, memory: &[u32; WORDS], n: usize) -> 
     ensures { (Puts text.old text.new at (verdict_lines (reverse (judged_of memory.now n))) result) × (result ≤ at + 12288) }
 {
     let mut to = at;
-    let mut i = 0;
-    while i < n {
+    for i in 0..n {
         to = put_verdict(text, to, memory[JUDGED_NAMES + i], memory[JUDGED_CODES + i]);
-        i += 1;
     }
     to
 }
