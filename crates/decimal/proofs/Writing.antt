@@ -11,12 +11,11 @@ use borrow.Author.Tests.{le-leb, lt-leb, leb-true, leb-false, not-true, not-fals
 use lib.Dec.{leb}
 use lib.ListN.{length, get_or, set, take, drop, length-append, length-drop}
 use lib.Seq.{sets, sets-eq, set_comm, paste, paste-suc, length-paste, take-length, take_at, drop_at, length-take-le, drop-drop, get_or-take, get_or-drop}
+use Rattle.std.specs.Prelude.{Option, Some, None}
 use Rattle.lists.proofs.Sets.{sets_snoc}
 use Rattle.decimal.specs.Text.{decimal}
 use Rattle.decimal.specs.Read.{Stands}
 use Rattle.decimal.specs.Write.{put, wrote}
-use Rattle.decimal.specs.declared.write.Put.{Put}
-use Rattle.decimal.specs.declared.write.Put.TheVariants.{Next, Full}
 use Rattle.decimal.proofs.Digits.{decimal_small, decimal_step}
 
 -- ---- digits from the back
@@ -61,11 +60,11 @@ module _ (b : List ℕ) (at : ℕ) (t : List ℕ) where
   unfolding put
   put_full h = rw (lt-leb (at + length t) (length b) h)
 
-  pub wrote-room : at + length t ≤ length b → wrote b at t ≡ Next (at + length t)
+  pub wrote-room : at + length t ≤ length b → wrote b at t ≡ Some (at + length t)
   unfolding wrote
   wrote-room h = rw (le-leb (at + length t) (length b) h)
 
-  pub wrote-full : length b < at + length t → wrote b at t ≡ Full
+  pub wrote-full : length b < at + length t → wrote b at t ≡ None
   unfolding wrote
   wrote-full h = rw (lt-leb (at + length t) (length b) h)
 
@@ -80,11 +79,11 @@ module _ (b : List ℕ) (at w : ℕ) (t : List ℕ) (e : w ≡ length t) {r : Bo
   pub tight : not r ≡ true → length b < at + length t
   tight h = leb-false (at + length t) (length b) (ap (λ (k : ℕ). leb (at + k) (length b)) (sym e) ∙ sym q ∙ not-true r h)
 
-  pub refuses : not r ≡ true → (Full ≡ wrote b at t) × (b ≡ put b at t)
+  pub refuses : not r ≡ true → (None ≡ wrote b at t) × (b ≡ put b at t)
   refuses h = (sym (wrote-full b at t (tight h)), sym (put_full b at t (tight h)))
 
-  pub writes : not r ≡ false → {c : List ℕ} → c ≡ sets b at t → (Next (at + w) ≡ wrote b at t) × (c ≡ put b at t)
-  writes h p = (ap (λ (k : ℕ). Next (at + k)) e ∙ sym (wrote-room b at t (roomy h)), p ∙ put_sets b at t (roomy h))
+  pub writes : not r ≡ false → {c : List ℕ} → c ≡ sets b at t → (Some (at + w) ≡ wrote b at t) × (c ≡ put b at t)
+  writes h p = (ap (λ (k : ℕ). Some (at + k)) e ∙ sym (wrote-room b at t (roomy h)), p ∙ put_sets b at t (roomy h))
 
 -- a text behind its first byte
 pub behind : {c : List ℕ} (b : List ℕ) (at d : ℕ) (t : List ℕ) → c ≡ sets (set b at d) (at + 1) t → c ≡ sets b at (d ∷ t)
@@ -98,15 +97,15 @@ module _ (b : List ℕ) (at : ℕ) (t : List ℕ) (room : at + length t ≤ leng
   pub copy_more : i < length t → set c (at + i) (get_or t i 0) ≡ paste b at t (i + 1)
   copy_more h = ap (λ (l : List ℕ). set l (at + i) (get_or t i 0)) p ∙ paste-suc b at t i 0 (omega arith) h ∙ ap (paste b at t) (sym (add-one i))
 
-  pub copy_all : i ≤ length t → length t ≤ i → (Next (at + i) ≡ wrote b at t) × (c ≡ put b at t)
+  pub copy_all : i ≤ length t → length t ≤ i → (Some (at + i) ≡ wrote b at t) × (c ≡ put b at t)
   copy_all h g =
       let e : i ≡ length t = omega arith in (
-        ap (λ (k : ℕ). Next (at + k)) e ∙ sym (wrote-room b at t room),
+        ap (λ (k : ℕ). Some (at + k)) e ∙ sym (wrote-room b at t room),
         p ∙ ap (paste b at t) e ∙ ap (λ (u : List ℕ). take at b ++ u ++ drop (at + length t) b) (take-length t) ∙ sym (put-room b at t room),
       )
 
 -- the same text by another name
-pub as_text : (b : List ℕ) (at : ℕ) {c : List ℕ} {r : Put} {t u : List ℕ} → u ≡ t → (r ≡ wrote b at t) × (c ≡ put b at t) → (r ≡ wrote b at u) × (c ≡ put b at u)
+pub as_text : (b : List ℕ) (at : ℕ) {c : List ℕ} {r : Option ℕ} {t u : List ℕ} → u ≡ t → (r ≡ wrote b at t) × (c ≡ put b at t) → (r ≡ wrote b at u) × (c ≡ put b at u)
 as_text b at e w = rw e w
 
 -- ---- what a text leaves as it was, and where it stands
@@ -161,22 +160,22 @@ module _ (b : List ℕ) (at : ℕ) (t : List ℕ) where
 
 -- what a caller learns from the answer
 module _ (b : List ℕ) (at : ℕ) (t : List ℕ) where
-  pub wrote-next : (e : ℕ) → wrote b at t ≡ Next e → (e ≡ at + length t) × (at + length t ≤ length b)
+  pub wrote-next : (e : ℕ) → wrote b at t ≡ Some e → (e ≡ at + length t) × (at + length t ≤ length b)
   wrote-next e q = go (dec_le (at + length t) (length b))
     where
       go : Dec (at + length t ≤ length b) → (e ≡ at + length t) × (at + length t ≤ length b)
-      go (yes h) = let p : Next (at + length t) ≡ Next e = sym (wrote-room b at t h) ∙ q in let r : e ≡ at + length t = cc in (r, h)
+      go (yes h) = let p : Some (at + length t) ≡ Some e = sym (wrote-room b at t h) ∙ q in let r : e ≡ at + length t = cc in (r, h)
       go (no h) =
-          let p : Full ≡ Next e = sym (wrote-full b at t (omega arith)) ∙ q in
+          let p : None ≡ Some e = sym (wrote-full b at t (omega arith)) ∙ q in
           let z : ◌≡◌ {A = ℕ} 0 1 = cc in
           absurd (omega arith)
 
-  pub wrote_none : wrote b at t ≡ Full → length b < at + length t
+  pub wrote_none : wrote b at t ≡ None → length b < at + length t
   wrote_none q = go (dec_le (at + length t) (length b))
     where
       go : Dec (at + length t ≤ length b) → length b < at + length t
       go (yes h) =
-          let p : Next (at + length t) ≡ Full = sym (wrote-room b at t h) ∙ q in
+          let p : Some (at + length t) ≡ None = sym (wrote-room b at t h) ∙ q in
           let z : ◌≡◌ {A = ℕ} 0 1 = cc in
           absurd (omega arith)
       go (no h) = omega arith

@@ -1,7 +1,5 @@
 -- Writing text. Document 01: "After a text is written, the rest of its buffer is untouched"; on a refusal "buffers stay".
-use Rattle.std.specs.Prelude.{ℕ, ◌+◌, ◌≤◌, ◌≡◌, Bool, cond, List, ◌++◌, leb, length, take, drop, ℤ, pos, negsuc}
-use Rattle.decimal.specs.declared.write.Put.{Put}
-use Rattle.decimal.specs.declared.write.Put.TheVariants.{Next, Full}
+use Rattle.std.specs.Prelude.{ℕ, ◌+◌, ◌≤◌, ◌≡◌, Bool, cond, List, ◌++◌, leb, length, take, drop, ℤ, pos, negsuc, Option, Some, None}
 use Rattle.decimal.specs.declared.write.Sign.{Sign}
 use Rattle.decimal.specs.declared.write.Sign.TheVariants.{Plus, Minus}
 
@@ -14,8 +12,8 @@ unfoldable pub put : List ℕ → ℕ → List ℕ → List ℕ
 put b at t = cond (room b at (length t)) (take at b ++ t ++ drop (at + length t) b) b
 
 -- the answer: the place behind t
-unfoldable pub wrote : List ℕ → ℕ → List ℕ → Put
-wrote b at t = cond (room b at (length t)) (Next (at + length t)) Full
+unfoldable pub wrote : List ℕ → ℕ → List ℕ → Option ℕ
+wrote b at t = cond (room b at (length t)) (Some (at + length t)) None
 
 -- what is answered where the whole text t is handed over at the front of b: its length, or that there is no room
 abbrev pub handed_over : {A : Type 0} → (ℕ → A) → A → List ℕ → List ℕ → A

@@ -5,10 +5,9 @@ mod read;
 mod write;
 
 pub use read::{
-    Field, Natural, Range, Signed, byte_at, field_at, natural_at, natural_behind_tab, signed_at,
-    signed_behind_tab,
+    Range, byte_at, field_at, natural_at, natural_behind_tab, signed_at, signed_behind_tab,
 };
-pub use write::{Put, put_byte, put_natural, put_signed, put_text};
+pub use write::{put_byte, put_natural, put_signed, put_text};
 
 // What parts the fields of a line, and ends it.
 pub const TAB: u8 = b'\t';

@@ -6,13 +6,6 @@ ghost use Rattle.decimal.specs.Write.{put, wrote, sign_of};
 
 use crate::{MINUS, ZERO};
 
-// The place just behind what was written, or Full where it did not fit and the buffer is as it was.
-#[derive(Clone, Copy)]
-pub enum Put {
-    Next(usize),
-    Full,
-}
-
 // A signed value, taken apart: Minus(v) is -1 - v.
 #[derive(Clone, Copy)]
 enum Sign {
@@ -20,49 +13,49 @@ enum Sign {
     Minus(u32),
 }
 
-// One byte, as a separator.
-pub fn put_byte(buf: &mut [u8], at: usize, b: u8) -> Put
+// One byte, as a separator: the place just behind it, or None where it does not fit and the buffer is as it was.
+pub fn put_byte(buf: &mut [u8], at: usize, b: u8) -> Option<usize>
     ensures reply { result ≡ wrote buf.old at (b ∷ []) }
     ensures buffer { buf.new ≡ put buf.old at (b ∷ []) }
 {
     if at < buf.len() {
         buf[at] = b;
-        return Put::Next(at + 1);
+        return Some(at + 1);
     }
-    Put::Full
+    None
 }
 
 // A text, as a word.
-pub fn put_text(buf: &mut [u8], at: usize, text: &[u8]) -> Put
+pub fn put_text(buf: &mut [u8], at: usize, text: &[u8]) -> Option<usize>
     ensures reply { result ≡ wrote buf.old at text.now }
     ensures buffer { buf.new ≡ put buf.old at text.now }
 {
     if !has_room(buf.len(), at, text.len()) {
-        return Put::Full;
+        return None;
     }
     let mut i = 0;
     while i < text.len() {
         buf[at + i] = text[i];
         i += 1;
     }
-    Put::Next(at + i)
+    Some(at + i)
 }
 
 // The digits of n.
-pub fn put_natural(buf: &mut [u8], at: usize, n: u64) -> Put
+pub fn put_natural(buf: &mut [u8], at: usize, n: u64) -> Option<usize>
     ensures reply { result ≡ wrote buf.old at (decimal n) }
     ensures buffer { buf.new ≡ put buf.old at (decimal n) }
 {
     let w = width(n);
     if !has_room(buf.len(), at, w) {
-        return Put::Full;
+        return None;
     }
     spell(buf, at, at + w, n);
-    Put::Next(at + w)
+    Some(at + w)
 }
 
 // The plain form of n.
-pub fn put_signed(buf: &mut [u8], at: usize, n: i32) -> Put
+pub fn put_signed(buf: &mut [u8], at: usize, n: i32) -> Option<usize>
     ensures reply { result ≡ wrote buf.old at (plain n) }
     ensures buffer { buf.new ≡ put buf.old at (plain n) }
 {
@@ -73,18 +66,18 @@ pub fn put_signed(buf: &mut [u8], at: usize, n: i32) -> Put
 }
 
 // The plain form of -1 - v.
-fn put_negative(buf: &mut [u8], at: usize, v: u32) -> Put
+fn put_negative(buf: &mut [u8], at: usize, v: u32) -> Option<usize>
     ensures reply { result ≡ wrote buf.old at (45 ∷ decimal (v + 1)) }
     ensures buffer { buf.new ≡ put buf.old at (45 ∷ decimal (v + 1)) }
 {
     let n = v as u64 + 1;
     let w = 1 + width(n);
     if !has_room(buf.len(), at, w) {
-        return Put::Full;
+        return None;
     }
     buf[at] = MINUS;
     spell(buf, at + 1, at + w, n);
-    Put::Next(at + w)
+    Some(at + w)
 }
 
 // Stores the digits of n from at up to end, from the back.
