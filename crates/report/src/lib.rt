@@ -10,7 +10,7 @@ ghost use Rattle.report.specs.Report.{verdict_word, head_line, verdict_line, ver
 ghost use Rattle.report.specs.Write.{written_reply, written_as};
 
 use book::{JUDGED_CODES, JUDGED_NAMES, WORDS};
-use decimal::{NEWLINE, Put, put_byte, put_natural, put_text};
+use decimal::{NEWLINE, put_byte, put_natural, put_text};
 use records::Totals;
 use units::Refusal;
 
@@ -47,10 +47,7 @@ fn hand_over(room: &mut [u8], text: &[u8]) -> Result<usize, Refusal>
     ensures reply { written_reply result ≡ written_as room.old text.now }
     ensures buffer { room.new ≡ put room.old 0 text.now }
 {
-    let Put::Next(n) = put_text(room, 0, text) else {
-        return Err(Refusal::NoRoom);
-    };
-    Ok(n)
+    put_text(room, 0, text).ok_or(Refusal::NoRoom)
 }
 
 fn put_report(text: &mut [u8], memory: &[u32; WORDS], totals: Totals) -> usize
@@ -140,7 +137,7 @@ fn put_number(text: &mut [u8], at: usize, n: u64, then: u8) -> usize
     requires { at + 21 ≤ length text.old }
     ensures { (Puts text.old text.new at (decimal n ++ (then ∷ [])) result) × (result ≤ at + 21) }
 {
-    let Put::Next(end) = put_natural(text, at, n) else {
+    let Some(end) = put_natural(text, at, n) else {
         return at;
     };
     put_byte(text, end, then);
