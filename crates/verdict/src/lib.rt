@@ -21,7 +21,7 @@ mod print;
 pub use print::show;
 
 // A refusal and its line (0 for 12 and 17).
-#[derive(Clone, Copy)]
+#[derive(Clone, Copy, PartialEq, Eq)]
 pub struct RefusedAt {
     pub refusal: Refusal,
     pub line: u32,
