@@ -1,22 +1,18 @@
 -- The two readings over the one: naturals of a range, and signed 32-bit values.
-use Prim.Native.Nat.{ℕ, zero, suc, ◌≤◌, ◌+◌, ◌-◌, ◌<◌}
-use native.Mathlib.Numerals.{add-one}
+use Prim.Native.Nat.{ℕ, zero, suc, ◌≤◌, ◌-◌, ◌<◌}
 use native.Mathlib.Omega.{arith}
-use mathlib.Core.Path.{◌≡◌, refl, sym, ap, ◌∙◌}
-use mathlib.Core.List.{List, ◌∷◌}
+use mathlib.Core.Path.{◌≡◌, refl, sym, ap}
+use mathlib.Core.List.{List}
 use mathlib.Core.Logic.{◌↔◌}
-use mathlib.Core.Bool.{true, false}
-use borrow.Author.Tests.{ltb-true}
 use lib.Dec.{T}
 use lib.IntN.{ℤ, pos, negsuc, nat_abs, ◌-ℤ◌}
-use lib.Signed.{mag, lt_z, non_neg}
+use lib.Signed.{mag, non_neg}
 use mir.Syntax.{w32, w64, w128}
 use mir.Val.{Fits, SFits, to_z, of_z}
-use mir.Facts.{to_z_pos, to_z-neg, to_z-of_z}
+use mir.Facts.{to_z-of_z}
 use Rattle.std.proofs.lemmas.Int.{ints}
 use Rattle.std.proofs.lemmas.Option.{some_pair_parts}
 use Rattle.std.specs.Prelude.{Option, Some, None}
-use Rattle.decimal.specs.Text.{decimal, plain}
 use Rattle.decimal.specs.Read.{field_at, as_natural, natural_at, naturals, signed_at, values, number, InRange, Reads}
 use Rattle.decimal.proofs.Reading.{absurd_number, field-reads, field-read}
 

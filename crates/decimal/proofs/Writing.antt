@@ -1,25 +1,21 @@
 -- Writing text: digits from the back, a text put whole or not at all, and what it leaves as it was.
-use Prim.Native.Nat.{ℕ, suc, ◌+◌, ◌-◌, ◌/◌, ◌%◌, ◌≤◌, ◌<◌}
-use native.Mathlib.Numerals.{add-one}
+use Prim.Native.Nat.{ℕ, ◌+◌, ◌-◌, ◌≤◌, ◌<◌}
 use native.Mathlib.Decide.{dec_le}
 use native.Mathlib.Omega.{arith}
 use mathlib.Core.Path.{◌≡◌, refl, sym, ap, ◌∙◌}
-use mathlib.Core.Bool.{Bool, true, false, not}
-use mathlib.Core.List.{List, [], ◌∷◌, ◌++◌, append_assoc}
+use mathlib.Core.Bool.{true, false}
+use mathlib.Core.List.{List, ◌∷◌, ◌++◌, append_assoc}
 use mathlib.Core.Logic.{◌⊎◌, inl, inr}
-use borrow.Author.Tests.{le-leb, lt-leb, leb-true, leb-false, not-true, not-false}
-use lib.Dec.{leb}
+use borrow.Author.Tests.{le-leb, lt-leb, leb-false}
 use lib.IntN.{ℤ, pos, negsuc, nat_abs}
 use lib.Signed.{le_z}
-use lib.ListN.{length, get_or, set, take, drop, length-append, length-drop}
+use lib.ListN.{length, get_or, take, drop, length-append, length-drop}
 use borrow.Rule.Slice.PartMut.{put_mid}
-use lib.Seq.{sets, sets-eq, set_comm, paste, paste-suc, length-paste, take-length, take_at, drop_at, length-take-le, drop-drop, get_or-take, get_or-drop}
+use lib.Seq.{sets, sets-eq, take_at, drop_at, length-take-le, drop-drop, get_or-take, get_or-drop}
 use Rattle.std.specs.Prelude.{Option, Some, None}
-use Rattle.lists.proofs.Sets.{sets_snoc}
 use Rattle.decimal.specs.Text.{decimal, plain}
 use Rattle.decimal.specs.Read.{Stands}
 use Rattle.decimal.specs.Write.{put, wrote, ends}
-use Rattle.decimal.proofs.Digits.{decimal_small, decimal_step}
 
 -- ---- a text, whole or not at all
 

@@ -1,8 +1,5 @@
 -- `decimal::write::spell` meets its contract. The invariant: the digits of what is left, in the places before i, and those stored are the whole.
 use native.Mathlib.Omega.{arith}
-use mathlib.Core.Path.{◌≡◌, sym, ap, ◌∙◌}
-use lib.ListN.{length, drop}
-use Rattle.decimal.specs.Text.{spelt}
 use Rattle.decimal.proofs.Digits.{spelt_whole, spelt_back}
 use Rattle.decimal.proofs.write.spell.Goals as goal
 
