@@ -2,27 +2,27 @@
 use Prim.Native.Nat.{ℕ, ◌+◌, ◌-◌, ◌≤◌, ◌<◌, min}
 use native.Mathlib.Omega.{arith}
 use native.Mathlib.Numerals.{add-one}
-use mathlib.Core.Path.{◌≡◌, sym, ◌∙◌, ap}
-use mathlib.Core.Bool.{Bool, true, false}
+use mathlib.Core.Path.{◌≡◌, refl, sym, ◌∙◌, ap}
+use mathlib.Core.Bool.{Bool, true, false, cond}
 use mathlib.Core.List.{List}
-use borrow.Author.Tests.{le-leb, lt-leb, lt-ltb, le-ltb, eq-eqb, ne_eqb}
-use lib.Dec.{leb}
+use borrow.Author.Tests.{le-leb, lt-leb, lt-ltb, le-ltb, eq-eqb, ne_eqb, ltb-true, leb-false}
+use lib.Dec.{leb, ltb}
+use Rattle.std.proofs.lemmas.List.{get_or_default}
 use lib.IntN.{ℤ}
 use lib.ListN.{length, get_or, set, take, length-take}
+use Rattle.std.specs.Prelude.{Option, Some, None, Ok, Err, SomeIff, IfSome, is_some}
+use Rattle.std.specs.Option.{ok_or}
 use Rattle.units.specs.declared.Version.{Version}
+use Rattle.units.specs.Refusal.{number_of}
+use Rattle.units.specs.declared.refusal.Refusal.{Refusal}
+use Rattle.units.specs.declared.refusal.Refusal.TheVariants.{ClockSpent, NoTransaction}
 use Rattle.units.specs.declared.rule.Rule.{Rule}
-use Rattle.units.specs.declared.rule.Certified.{Certified}
-use Rattle.units.specs.declared.rule.Certified.TheVariants.{Whole, Broken}
 use Rattle.transaction.specs.declared.Transaction.{Transaction}
-use Rattle.transaction.specs.declared.Pending.{Pending}
-use Rattle.transaction.specs.declared.Pending.TheVariants.{Value, Nothing}
 use Rattle.transaction.specs.Transaction.{recorded, pending_of, reads_of, writes_of, no_mark}
 use Rattle.model.specs.Log.{Entry, newest, look_up, made_at}
 use Rattle.model.specs.Rules.{distance, certified}
 use Rattle.model.specs.Step.{step, checks_of, final_of, order, marked}
 use Rattle.model.specs.Call.{Read, Note, Distance, Commit, Message, Newest, refused, version, own, apart_by, committed, aborted, made, made_by}
-use Rattle.units.specs.declared.Found.{Found}
-use Rattle.units.specs.declared.Found.TheVariants.{At, Absent}
 use Rattle.units.specs.declared.Batch.{Batch}
 use Rattle.transaction.specs.declared.Mark.{Mark}
 use Rattle.versions.specs.Batch.{batch_of}
@@ -32,6 +32,7 @@ use Rattle.memory.proofs.Laws.{places_at}
 use Rattle.words.specs.Installed.{installed}
 use Rattle.words.proofs.Installing.{length-log}
 use Rattle.words.specs.After.{at, closed, change, after}
+use Rattle.desk.proofs.Laws.{refused-stays}
 
 -- ---- what is decided
 module _ (ws : List ℕ) (n : ℕ) where
@@ -59,15 +60,15 @@ module _ (ws : List ℕ) (n : ℕ) where
     unfolding step checks_of final_of order
     read_no_key k h = rw (lt-leb 32 _ live, lt-ltb 63 _ h)
 
-    pub read-own : (k : ℕ) (v : ℤ) → k ≤ 63 → pending_of t k ≡ Value v → own v ≡ (step (state_of ws) (Read n k)).reply
+    pub read-own : (k : ℕ) (v : ℤ) → k ≤ 63 → pending_of t k ≡ Some v → own v ≡ (step (state_of ws) (Read n k)).reply
     unfolding step checks_of final_of order
     read-own k v h p = rw (lt-leb 32 _ live, le-ltb 63 _ h, places_at ws (at ws n) live, p)
 
-    pub read-full : (k : ℕ) → k ≤ 63 → pending_of t k ≡ Nothing → leb 16 t.recorded ≡ true → refused 4 ≡ (step (state_of ws) (Read n k)).reply
+    pub read-full : (k : ℕ) → k ≤ 63 → pending_of t k ≡ None → leb 16 t.recorded ≡ true → refused 4 ≡ (step (state_of ws) (Read n k)).reply
     unfolding step checks_of final_of order
     read-full k h p f = rw (lt-leb 32 _ live, le-ltb 63 _ h, places_at ws (at ws n) live, p, f)
 
-    pub read_goes : (k : ℕ) → k ≤ 63 → pending_of t k ≡ Nothing → leb 16 t.recorded ≡ false → version (newest (log_of ws) k) ≡ (step (state_of ws) (Read n k)).reply
+    pub read_goes : (k : ℕ) → k ≤ 63 → pending_of t k ≡ None → leb 16 t.recorded ≡ false → version (newest (log_of ws) k) ≡ (step (state_of ws) (Read n k)).reply
     unfolding step checks_of final_of order
     read_goes k h p f = rw (lt-leb 32 _ live, le-ltb 63 _ h, places_at ws (at ws n) live, p, f)
 
@@ -77,15 +78,15 @@ module _ (ws : List ℕ) (n : ℕ) where
       note_no_key h = rw (lt-leb 32 _ live, lt-ltb 63 _ h)
 
       module _ (h : k ≤ 63) where
-        pub note-written : (v : ℤ) → pending_of t k ≡ Value v → refused 8 ≡ (step (state_of ws) (Note n k o)).reply
+        pub note-written : (v : ℤ) → pending_of t k ≡ Some v → refused 8 ≡ (step (state_of ws) (Note n k o)).reply
         unfolding step checks_of final_of order
         note-written v p = rw (lt-leb 32 _ live, le-ltb 63 _ h, places_at ws (at ws n) live, p)
 
-        pub note_absent : pending_of t k ≡ Nothing → look_up (log_of ws) k o ≡ Absent → refused 7 ≡ (step (state_of ws) (Note n k o)).reply
+        pub note_absent : pending_of t k ≡ None → look_up (log_of ws) k o ≡ None → refused 7 ≡ (step (state_of ws) (Note n k o)).reply
         unfolding step checks_of final_of order
         note_absent p q = rw (lt-leb 32 _ live, le-ltb 63 _ h, places_at ws (at ws n) live, p, q)
 
-        module _ (v : Version) (p : pending_of t k ≡ Nothing) (q : look_up (log_of ws) k o ≡ At v) where
+        module _ (v : Version) (p : pending_of t k ≡ None) (q : look_up (log_of ws) k o ≡ Some v) where
           pub note-full : leb 16 t.recorded ≡ true → refused 4 ≡ (step (state_of ws) (Note n k o)).reply
           unfolding step checks_of final_of order
           note-full f = rw (lt-leb 32 _ live, le-ltb 63 _ h, places_at ws (at ws n) live, p, q, f)
@@ -103,21 +104,41 @@ module _ (ws : List ℕ) (n : ℕ) where
       unfolding step checks_of final_of order
       distance_goes h = rw (lt-leb 32 _ live, places_at ws (at ws n) live, lt-leb (length (reads_of t)) p h)
 
-    pub commit-aborts : (r : Rule) → certified (log_of ws) t ≡ Broken r → aborted r ≡ (step (state_of ws) (Commit n)).reply
+    pub commit-aborts : (r : Rule) → certified (log_of ws) t ≡ Err r → aborted r ≡ (step (state_of ws) (Commit n)).reply
     unfolding step checks_of final_of order
     commit-aborts r e = rw (lt-leb 32 _ live, places_at ws (at ws n) live, e)
 
-    pub commit-full : certified (log_of ws) t ≡ Whole → 4096 < length (log_of ws) + length (writes_of t) → refused 6 ≡ (step (state_of ws) (Commit n)).reply
-    unfolding step checks_of final_of order
-    commit-full e h = rw (lt-leb 32 _ live, places_at ws (at ws n) live, e, lt-ltb 4096 _ h)
+    module _ (kept : certified (log_of ws) t ≡ Ok tt) where
+      size : length (log_of ws) ≡ length_of ws
+      size = length-log ws (length_of ws)
 
-    pub commit-spent : certified (log_of ws) t ≡ Whole → length (log_of ws) + length (writes_of t) ≤ 4096 → get_or ws 0 0 ≡ 4294967295 → refused 5 ≡ (step (state_of ws) (Commit n)).reply
-    unfolding step checks_of final_of order
-    commit-spent e h c = rw (lt-leb 32 _ live, places_at ws (at ws n) live, e, le-ltb 4096 _ h, eq-eqb _ _ c)
+      pub commit-full : 4096 - length_of ws < length (writes_of t) → refused 6 ≡ (step (state_of ws) (Commit n)).reply
+      unfolding step checks_of final_of order
+      commit-full h = rw (lt-leb 32 _ live, places_at ws (at ws n) live, kept, size, lt-ltb 4096 (length_of ws + length (writes_of t)) (omega arith))
 
-    pub commit_goes : certified (log_of ws) t ≡ Whole → length (log_of ws) + length (writes_of t) ≤ 4096 → (get_or ws 0 0 ≡ 4294967295 → ⊥) → committed (get_or ws 0 0 + 1) ≡ (step (state_of ws) (Commit n)).reply
-    unfolding step checks_of final_of order
-    commit_goes e h c = rw (lt-leb 32 _ live, places_at ws (at ws n) live, e, le-ltb 4096 _ h, ne_eqb _ _ c, add-one)
+      -- the clock's next stamp, or 5 where there is none
+      module _ (room : length (writes_of t) ≤ 4096 - length_of ws) (next : Option ℕ) (counts : SomeIff next (get_or ws 0 0 + 1 < 4294967296) (get_or ws 0 0 + 1)) where
+        pub commit-spent : get_or ws 0 0 < 4294967296 → (f : Refusal) → Err f ≡ ok_or next ClockSpent → refused (number_of f) ≡ (step (state_of ws) (Commit n)).reply
+        unfolding step checks_of final_of order
+        commit-spent h f e = go next counts e
+          where
+            go : (o : Option ℕ) → SomeIff o (get_or ws 0 0 + 1 < 4294967296) (get_or ws 0 0 + 1) → Err f ≡ ok_or o ClockSpent → refused (number_of f) ≡ (step (state_of ws) (Commit n)).reply
+            go None k e =
+                let spent : get_or ws 0 0 ≡ 4294967295 = omega arith in
+                let five : f ≡ ClockSpent = cc in
+                rw (five, lt-leb 32 _ live, places_at ws (at ws n) live, kept, size, le-ltb 4096 (length_of ws + length (writes_of t)) (omega arith), eq-eqb _ _ spent)
+            go (Some m) k e = absurd (cc)
+
+        pub commit_goes : (m : ℕ) → Ok m ≡ ok_or next ClockSpent → committed m ≡ (step (state_of ws) (Commit n)).reply
+        unfolding step checks_of final_of order
+        commit_goes m e = go next counts e
+          where
+            go : (o : Option ℕ) → SomeIff o (get_or ws 0 0 + 1 < 4294967296) (get_or ws 0 0 + 1) → Ok m ≡ ok_or o ClockSpent → committed m ≡ (step (state_of ws) (Commit n)).reply
+            go None k e = absurd (cc)
+            go (Some x) k e =
+                let is : m ≡ x = cc in
+                let more : (get_or ws 0 0 ≡ 4294967295 → ⊥) = (λ z. absurd (omega arith)) in
+                rw (is, k.1, lt-leb 32 _ live, places_at ws (at ws n) live, kept, size, le-ltb 4096 (length_of ws + length (writes_of t)) (omega arith), ne_eqb _ _ more, add-one)
 
 -- ---- what is changed
 module _ (ws us : List ℕ) (n p : ℕ) (e : p ≡ at ws n) where
@@ -147,66 +168,6 @@ module _ (ws : List ℕ) (n : ℕ) where
   unfolding change
   no_own k o v e = rw (← e)
 
--- ---- what is decided, from what the calls below say
-module _ (ws : List ℕ) (n i : ℕ) (t : Transaction) (e : i ≡ at ws n) (below : i < 32) (l : t ≡ loaded ws i) where
-  live : at ws n < 32
-  live = rw e at below
-
-  same : t ≡ loaded ws (at ws n)
-  same = l ∙ ap (loaded ws) e
-
-  pub own_at : (k : ℕ) (v : ℤ) (p : Pending) → k ≤ 63 → p ≡ pending_of t k → p ≡ Value v → own v ≡ (step (state_of ws) (Read n k)).reply
-  own_at k v p h g q = read-own ws n live k v h (rw (← same) (sym g ∙ q))
-
-  pub full_at : (k : ℕ) (p : Pending) → k ≤ 63 → p ≡ pending_of t k → p ≡ Nothing → (b : Bool) → b ≡ leb 16 t.recorded → b ≡ true → refused 4 ≡ (step (state_of ws) (Read n k)).reply
-  full_at k p h g q b e f = read-full ws n live k h (rw (← same) (sym g ∙ q)) (rw (← same) (sym e ∙ f))
-
-  pub newest-at : (k : ℕ) (p : Pending) (v : Version) → k ≤ 63 → p ≡ pending_of t k → p ≡ Nothing → (b : Bool) → b ≡ leb 16 t.recorded → b ≡ false → v ≡ newest (log_of ws) k → version v ≡ (step (state_of ws) (Read n k)).reply
-  newest-at k p v h g q b e f w = ap version w ∙ read_goes ws n live k h (rw (← same) (sym g ∙ q)) (rw (← same) (sym e ∙ f))
-
-  module _ (k o : ℕ) (p : Pending) (h : k ≤ 63) (g : p ≡ pending_of t k) where
-    pub written_at : (v : ℤ) → p ≡ Value v → refused 8 ≡ (step (state_of ws) (Note n k o)).reply
-    written_at v q = note-written ws n live k o h v (rw (← same) (sym g ∙ q))
-
-    module _ (q : p ≡ Nothing) (f : Found) (w : f ≡ look_up (log_of ws) k o) where
-      pub absent_at : f ≡ Absent → refused 7 ≡ (step (state_of ws) (Note n k o)).reply
-      absent_at z = note_absent ws n live k o h (rw (← same) (sym g ∙ q)) (sym w ∙ z)
-
-      module _ (v : Version) (z : f ≡ At v) (b : Bool) (r : b ≡ leb 16 t.recorded) where
-        pub note-full-at : b ≡ true → refused 4 ≡ (step (state_of ws) (Note n k o)).reply
-        note-full-at x = note-full ws n live k o h v (rw (← same) (sym g ∙ q)) (sym w ∙ z) (rw (← same) (sym r ∙ x))
-
-        pub noted-at : b ≡ false → version v ≡ (step (state_of ws) (Note n k o)).reply
-        noted-at x = note_goes ws n live k o h v (rw (← same) (sym g ∙ q)) (sym w ∙ z) (rw (← same) (sym r ∙ x))
-
-  module _ (p : ℕ) where
-    pub none-at : (m : ℕ) → m ≡ length (reads_of t) → m ≤ p → refused 9 ≡ (step (state_of ws) (Distance n p)).reply
-    none-at m q h = distance_none ws n live p (rw (q, same) at h)
-
-    pub distance-at : (m : ℕ) (x : Mark) (d : ℤ) → m ≡ length (reads_of t) → p < m → x ≡ get_or (reads_of t) p no_mark → d ≡ distance (log_of ws) t.name.0 x
-        → apart_by d ≡ (step (state_of ws) (Distance n p)).reply
-    distance-at m x d q h y z = ap apart_by (z ∙ ap (distance (log_of ws) t.name.0) y ∙ rw same) ∙ distance_goes ws n live p (rw (q, same) at h)
-
-  module _ (c : Certified) (g : c ≡ certified (log_of ws) t) where
-    pub aborts-at : (r : Rule) → c ≡ Broken r → aborted r ≡ (step (state_of ws) (Commit n)).reply
-    aborts-at r b = commit-aborts ws n live r (rw (← same) (sym g ∙ b))
-
-    module _ (whole : c ≡ Whole) (k u : ℕ) (long : k ≡ length_of ws) (many : u ≡ length (writes_of t)) where
-      sound : certified (log_of ws) (loaded ws (at ws n)) ≡ Whole
-      sound = rw (← same) (sym g ∙ whole)
-
-      size : length (log_of ws) + length (writes_of (loaded ws (at ws n))) ≡ k + u
-      size = rw (← same, ← many, length-log ws (length_of ws), long)
-
-      pub log-full-at : 4096 - k < u → refused 6 ≡ (step (state_of ws) (Commit n)).reply
-      log-full-at h = commit-full ws n live sound (omega (arith, size))
-
-      pub spent-at : u ≤ 4096 - k → get_or ws 0 0 ≡ 4294967295 → refused 5 ≡ (step (state_of ws) (Commit n)).reply
-      spent-at h z = commit-spent ws n live sound (omega (arith, size, long)) z
-
-      pub commits-at : (m : ℕ) → u ≤ 4096 - k → (get_or ws 0 0 ≡ 4294967295 → ⊥) → m ≡ get_or ws 0 0 + 1 → committed m ≡ (step (state_of ws) (Commit n)).reply
-      commits-at m h z q = ap committed q ∙ commit_goes ws n live sound (omega (arith, size, long)) z
-
 -- ---- the calls that only look at the log
 module _ (es : List Entry) (b : Batch) (e : b ≡ batch_of es) where
   few : b.count ≡ min 16 (length es)
@@ -235,3 +196,28 @@ module _ (ws : List ℕ) where
   pub newest_goes : (k : ℕ) (v : Version) → k ≤ 63 → v ≡ newest (log_of ws) k → made_by v.stamp.0 ≡ (step (state_of ws) (Newest k)).reply
   unfolding step checks_of final_of order
   newest_goes k v h e = rw (le-ltb 63 _ h, e)
+
+-- the read at a place, from what the look-up of it answers
+pub looked_up : {R : Type 0} (now : R → Mark) (l : List Mark) (p : ℕ) (o : Option R) (r : R) (f : Refusal) → is_some o ≡ ltb p (length l) → IfSome o (λ x. now x ≡ get_or l p (now x))
+    → Ok r ≡ ok_or o f → (p < length l) × (now r ≡ get_or l p no_mark)
+looked_up now l p None r f e h k = absurd (cc)
+looked_up now l p (Some x) r f e h k = let is : r ≡ x = cc in let b : p < length l = ltb-true p (length l) (sym e) in (b, rw is (h ∙ get_or_default l p (now x) no_mark b))
+
+-- the transaction at a place that was opened
+pub distance-of : (ws : List ℕ) (n i p : ℕ) (t : Transaction) (x : Mark) (d : ℤ) → i ≡ at ws n → Ok t ≡ cond (leb 32 i) (Err NoTransaction) (Ok (loaded ws i)) → p < length (reads_of t)
+    → x ≡ get_or (reads_of t) p no_mark → d ≡ distance (log_of ws) t.name.0 x → apart_by d ≡ (step (state_of ws) (Distance n p)).reply
+distance-of ws n i p t x d e o h y z = go (leb 32 i) refl o
+  where
+    go : (b : Bool) → leb 32 i ≡ b → Ok t ≡ cond b (Err NoTransaction) (Ok (loaded ws i)) → apart_by d ≡ (step (state_of ws) (Distance n p)).reply
+    go true k o = absurd (cc)
+    go false k o =
+        let same : t ≡ loaded ws (at ws n) = cc in
+        let live : at ws n < 32 = rw e at (leb-false 32 i k) in
+        ap apart_by (z ∙ ap (distance (log_of ws) t.name.0) y ∙ rw same) ∙ distance_goes ws n live p (rw same at h)
+
+-- what the check finds the calls' answers by
+pub ruleset decided = (read-nobody, read_no_key, read-own, read-full, read_goes, note-nobody, note_no_key, note-written, note_absent, note-full, note_goes, distance-nobody, distance_none, distance_goes, commit-nobody, commit-aborts, commit-full, commit-spent, commit_goes)
+
+pub ruleset answered = (made_none, made_some, newest_no_key, newest_goes)
+
+pub ruleset done_so = (read-after, note-after, commit-after, abort-after, own-stays, no_own, refused-stays)
