@@ -9,3 +9,4 @@ pub mod Along
 pub mod Any
 pub mod Images
 pub mod Tests
+pub mod Std

@@ -6,8 +6,8 @@ use mathlib.Core.Path.{◌≡◌, refl, sym, ap, ◌∙◌}
 use lib.ListN.{get_or}
 use Rattle.units.specs.Refusal.{number_of}
 use Rattle.units.specs.Bounds.{TripleReply, refused, taken, triple_reply}
-use Rattle.units.specs.declared.Triple.{Triple}
-use Rattle.units.specs.declared.Triple.TheVariants.{Taken, Refused}
+use Rattle.std.specs.Prelude.{Result, Ok, Err}
+use Rattle.units.specs.declared.Bounds.{Bounds}
 use Rattle.units.specs.declared.refusal.Refusal.{Refusal}
 use Rattle.units.specs.declared.refusal.Refusal.TheVariants.{NoTransaction, NoKey, DeskFull, TransactionFull, ClockSpent, LogFull, NoVersion, KeyWritten, NoSuchBoundOrPlace, NotAMessage, OrdinalAhead, HistoryTooLong, NotARecord, TooManyLines, WrongTransaction, TooManyTransactions, NoRoom, NothingWritten}
 
@@ -68,13 +68,13 @@ number_pos NoRoom = omega arith
 number_pos NothingWritten = omega arith
 
 -- so a triple's answer comes back from its reply
-pub triple_inj : (a b : Triple) → triple_reply a ≡ triple_reply b → a ≡ b
+pub triple_inj : (a b : Result Bounds Refusal) → triple_reply a ≡ triple_reply b → a ≡ b
 triple_inj = back_inj triple_reply back there
   where
-    back : TripleReply → Triple
-    back (taken b) = Taken b
-    back (refused n) = Refused (refusal_of n)
+    back : TripleReply → Result Bounds Refusal
+    back (taken b) = Ok b
+    back (refused n) = Err (refusal_of n)
 
-    there : (a : Triple) → back (triple_reply a) ≡ a
-    there (Taken b) = refl
-    there (Refused f) = ap Refused (number_back f)
+    there : (a : Result Bounds Refusal) → back (triple_reply a) ≡ a
+    there (Ok b) = refl
+    there (Err f) = ap Err (number_back f)

@@ -1,8 +1,7 @@
 -- Bound triples: document 01, "A bound triple is (k1, k2, k3) .. k1 at least 1", and the named ones, with M-100's.
-use Rattle.std.specs.Prelude.{ℕ, cond, eqb}
+use Rattle.std.specs.Prelude.{ℕ, cond, eqb, Result, Ok, Err}
 use Rattle.units.specs.declared.Bounds.{Bounds}
-use Rattle.units.specs.declared.Triple.{Triple}
-use Rattle.units.specs.declared.Triple.TheVariants.{Taken, Refused}
+use Rattle.units.specs.declared.refusal.Refusal.{Refusal}
 use Rattle.units.specs.Refusal.{number_of}
 
 abbrev pub triple : ℕ → ℕ → ℕ → Bounds
@@ -28,9 +27,9 @@ pub data TripleReply : Type 0 where
   refused : (number : ℕ) → TripleReply
   taken : Bounds → TripleReply
 
-abbrev pub triple_reply : Triple → TripleReply
-triple_reply (Taken b) = taken b
-triple_reply (Refused f) = refused (number_of f)
+abbrev pub triple_reply : Result Bounds Refusal → TripleReply
+triple_reply (Ok b) = taken b
+triple_reply (Err f) = refused (number_of f)
 
 -- "9: k1 is 0"
 unfoldable pub bounded : ℕ → ℕ → ℕ → TripleReply

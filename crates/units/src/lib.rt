@@ -1,8 +1,8 @@
 // The things that document 01 counts: stamps, ordinals, versions, bound triples, its limits, its rules and its refusals.
 #![tactic(auto)]
 
-ghost use Rattle.std.specs.Prelude.{min, ◌≡◌, []};
-ghost use Rattle.units.specs.Batch.{batch_of, added};
+ghost use Rattle.std.specs.Prelude.{◌≡◌, []};
+ghost use Rattle.units.specs.Batch.{batch_of, items_of, added};
 ghost use Rattle.units.specs.Bounds.{bounded, triple_reply, snapshot, default, calibration};
 ghost use Rattle.units.specs.Version.{start_version};
 
@@ -11,18 +11,18 @@ mod refusal;
 mod rule;
 
 pub use refusal::Refusal;
-pub use rule::{Certified, Rule};
+pub use rule::Rule;
 
 // A moment of the master's one clock; 0 is the load.
-#[derive(Clone, Copy)]
+#[derive(Clone, Copy, PartialEq, Eq, PartialOrd, Ord)]
 pub struct Stamp(pub u32);
 
 // The number of a version among those of its key; 0 is the start version.
-#[derive(Clone, Copy)]
+#[derive(Clone, Copy, PartialEq, Eq, PartialOrd, Ord)]
 pub struct Ordinal(pub u32);
 
 // A version of a key, as a read answers it.
-#[derive(Clone, Copy)]
+#[derive(Clone, Copy, PartialEq, Eq)]
 pub struct Version {
     pub ordinal: Ordinal,
     pub stamp: Stamp,
@@ -43,7 +43,7 @@ impl Version {
 }
 
 // A version as a message carries it: the stamp is the message's own.
-#[derive(Clone, Copy)]
+#[derive(Clone, Copy, PartialEq, Eq)]
 pub struct Item {
     pub key: u8,
     pub ordinal: Ordinal,
@@ -80,32 +80,24 @@ impl Batch {
         if n < limits::WRITES {
             self.items[n] = item;
             self.count = n + 1;
-            return self;
         }
         self
     }
-}
 
-// What a look-up answers.
-#[derive(Clone, Copy)]
-pub enum Found {
-    At(Version),
-    Absent,
+    // The items that count; a count past the limit counts as the limit.
+    pub fn items(&self) -> &[Item]
+        ensures { result.now ≡ items_of self.now }
+    {
+        &self.items[..self.count.min(limits::WRITES)]
+    }
 }
 
 // A bound triple: how stale a read may be, how far past the start, how far apart two reads.
-#[derive(Clone, Copy)]
+#[derive(Clone, Copy, PartialEq, Eq)]
 pub struct Bounds {
     pub k1: u16,
     pub k2: u16,
     pub k3: u16,
-}
-
-// What the constructor of a bound triple answers.
-#[derive(Clone, Copy)]
-pub enum Triple {
-    Taken(Bounds),
-    Refused(Refusal),
 }
 
 impl Bounds {
@@ -149,19 +141,12 @@ impl Bounds {
     }
 
     // k1 is at least 1.
-    pub fn new(k1: u16, k2: u16, k3: u16) -> Triple
+    pub fn new(k1: u16, k2: u16, k3: u16) -> Result<Bounds, Refusal>
         ensures { triple_reply result ≡ bounded k1 k2 k3 }
     {
         if k1 == 0 {
-            return Triple::Refused(Refusal::NoSuchBoundOrPlace);
+            return Err(Refusal::NoSuchBoundOrPlace);
         }
-        Triple::Taken(Bounds { k1, k2, k3 })
+        Ok(Bounds { k1, k2, k3 })
     }
-}
-
-// A count that says more than there are places counts as the places.
-pub fn at_most(n: usize, most: usize) -> usize
-    ensures { result ≡ min n most }
-{
-    if n < most { n } else { most }
 }

@@ -1,17 +1,10 @@
 // The rules of RVSI that a commit can break, each with the place or places where it was broken.
 
 // Places are 0, 1, 2: of recorded reads for BV, FV and SV (x, then y), of written keys for WC.
-#[derive(Clone, Copy)]
+#[derive(Clone, Copy, PartialEq, Eq)]
 pub enum Rule {
     BV(usize),
     FV(usize),
     SV(usize, usize),
     WC(usize),
-}
-
-// What certifying a transaction finds: nothing broken, or the first broken rule.
-#[derive(Clone, Copy)]
-pub enum Certified {
-    Whole,
-    Broken(Rule),
 }

@@ -7,6 +7,6 @@ pub returns-then-n-lt-WRITES : goal.returns-then-n-lt-WRITES
 unfolding added
 returns-then-n-lt-WRITES c = simp (lt-ltb _ _ c.if-n-lt-WRITES.true)
 
-pub returns : goal.returns
+pub returns-else-n-lt-WRITES : goal.returns-else-n-lt-WRITES
 unfolding added
-returns c = simp (le-ltb _ _ c.if-n-lt-WRITES.false)
+returns-else-n-lt-WRITES c = simp (le-ltb _ _ c.if-n-lt-WRITES.false)
