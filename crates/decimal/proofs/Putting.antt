@@ -7,10 +7,9 @@ use mathlib.Core.List.{List, [], ◌∷◌, ◌++◌, append_assoc, append-nil}
 use borrow.Author.Tests.{le-leb, lt-leb}
 use lib.ListN.{length, take, drop, length-append}
 use lib.Seq.{take-append_seam, length-take-le}
+use Rattle.std.specs.Prelude.{Option, Some, None}
 use Rattle.decimal.specs.Text.{joined}
 use Rattle.decimal.specs.Write.{put, wrote, handed_over, Puts}
-use Rattle.decimal.specs.declared.write.Put.{Put}
-use Rattle.decimal.specs.declared.write.Put.TheVariants.{Next, Full}
 use Rattle.decimal.proofs.Writing.{put-room, put_sets, put-length, put-put, wrote-next, wrote_none}
 
 -- one text, where there is room for it
@@ -22,13 +21,13 @@ pub puts_none : (b : List ℕ) (at : ℕ) → at ≤ length b → Puts b b at []
 puts_none b at h = record { place = sym (add-zero at); fits = h; text = put_sets b at [] (omega arith) }
 
 -- what a writer answered
-module _ (b : List ℕ) (at : ℕ) (t : List ℕ) {w : Put} (p : w ≡ wrote b at t) where
-  pub puts_next : {c : List ℕ} {e : ℕ} → c ≡ put b at t → w ≡ Next e → Puts b c at t e
+module _ (b : List ℕ) (at : ℕ) (t : List ℕ) {w : Option ℕ} (p : w ≡ wrote b at t) where
+  pub puts_next : {c : List ℕ} {e : ℕ} → c ≡ put b at t → w ≡ Some e → Puts b c at t e
   puts_next {e = e} f q =
       let n : (e ≡ at + length t) × (at + length t ≤ length b) = wrote-next b at t e (sym p ∙ q) in
       record { place = n.0; fits = omega arith; text = f }
 
-  pub puts_full : at + length t ≤ length b → w ≡ Full → ⊥
+  pub puts_full : at + length t ≤ length b → w ≡ None → ⊥
   puts_full h q = let n : length b < at + length t = wrote_none b at t (sym p ∙ q) in omega arith
 
 pub puts_length : {b c t : List ℕ} {at r : ℕ} → Puts b c at t r → length c ≡ length b
@@ -75,13 +74,13 @@ puts_taken {c = c} {r = r} p = sym (length-take-le r c (omega (arith, puts_lengt
 
 -- ---- a text handed over: the answers, from that to what was put at the front
 
-module _ {A : Type 0} (bytes : ℕ → A) (noRoom : A) (b t : List ℕ) {c : List ℕ} {w : Put} (p : (w ≡ wrote b 0 t) × (c ≡ put b 0 t)) where
-  pub handed_whole : {n : ℕ} → w ≡ Next n → (bytes n ≡ handed_over bytes noRoom b t) × (c ≡ put b 0 t)
+module _ {A : Type 0} (bytes : ℕ → A) (noRoom : A) (b t : List ℕ) {c : List ℕ} {w : Option ℕ} (p : (w ≡ wrote b 0 t) × (c ≡ put b 0 t)) where
+  pub handed_whole : {n : ℕ} → w ≡ Some n → (bytes n ≡ handed_over bytes noRoom b t) × (c ≡ put b 0 t)
   handed_whole {n = n} q =
       let h : (n ≡ 0 + length t) × (0 + length t ≤ length b) = wrote-next b 0 t n (sym p.0 ∙ q) in
       (rw (le-leb (length t) (length b) (omega (arith, h.1))) (ap bytes (h.0 ∙ zero-add (length t))), p.1)
 
-  pub handed_full : w ≡ Full → (noRoom ≡ handed_over bytes noRoom b t) × (c ≡ put b 0 t)
+  pub handed_full : w ≡ None → (noRoom ≡ handed_over bytes noRoom b t) × (c ≡ put b 0 t)
   handed_full q =
       let h : length b < length t = omega (arith, wrote_none b 0 t (sym p.0 ∙ q)) in
       (rw (lt-leb (length t) (length b) h), p.1)

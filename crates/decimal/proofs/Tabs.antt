@@ -11,11 +11,10 @@ use lib.Dec.{eqb}
 use lib.IntN.{ℤ, pos}
 use lib.ListN.{length, get_or, drop, length-append}
 use lib.Seq.{drop-cons}
+use Rattle.std.specs.Prelude.{Option, Some, None}
 use Rattle.decimal.specs.Text.{plain, field}
 use Rattle.decimal.specs.Read.{naturals, values, behind_tab, natural_behind_tab, signed_behind_tab, on_number, InRange, Stands, Reads, Tabbed}
 use Rattle.decimal.specs.declared.read.Range.{Range}
-use Rattle.decimal.specs.declared.read.Natural.{Natural}
-use Rattle.decimal.specs.declared.read.Signed.{Signed}
 use Rattle.decimal.proofs.Steps.{byte_within}
 use Rattle.decimal.proofs.Reading.{Stops, absurd_number, after, head_of, reads_at}
 use Rattle.decimal.proofs.Values.{natural_exactly, signed_exactly}
@@ -46,9 +45,6 @@ module _ (s : List ℕ) where
 
 -- ---- the number behind a tab
 
-absurd_signed : {A : Type 0} {z : ℤ} {e : ℕ} → Signed.Bad ≡ Signed.Number z e → A
-absurd_signed q = let z : ◌≡◌ {A = ℕ} 0 1 = cc in absurd (omega arith)
-
 module _ (s : List ℕ) (at : ℕ) where
   -- a reading that answers r exactly if z stands at its place answers it behind a tab exactly if z stands behind that tab
   tabbed_exactly : {A : Type 0} {there no-tab r : A} {range : Range} {z : ℤ} {e : ℕ} → (no-tab ≡ r → ⊥) → ((there ≡ r) ↔ Reads range s (at + 1) z e)
@@ -60,16 +56,16 @@ module _ (s : List ℕ) (at : ℕ) where
       go true h q = record { tab = eqb-true (get_or s at 0) 9 h; reads = x.0 q }
       go false h q = absurd (n q)
 
-  pub natural_tabbed : (least most v e : ℕ) → (natural_behind_tab s at least most ≡ Natural.Number v e) ↔ Tabbed (naturals least most) s at (pos v) e
+  pub natural_tabbed : (least most v e : ℕ) → (natural_behind_tab s at least most ≡ Some (v, e)) ↔ Tabbed (naturals least most) s at (pos v) e
   unfolding natural_behind_tab
   natural_tabbed least most v e = tabbed_exactly absurd_number (natural_exactly s (at + 1) least most v e)
 
-  pub signed_tabbed : (z : ℤ) (e : ℕ) → (signed_behind_tab s at ≡ Signed.Number z e) ↔ Tabbed values s at z e
+  pub signed_tabbed : (z : ℤ) (e : ℕ) → (signed_behind_tab s at ≡ Some (z, e)) ↔ Tabbed values s at z e
   unfolding signed_behind_tab
-  signed_tabbed z e = tabbed_exactly absurd_signed (signed_exactly s (at + 1) z e)
+  signed_tabbed z e = tabbed_exactly absurd_number (signed_exactly s (at + 1) z e)
 
   -- a number that was read is at most the most
-  pub natural_small : (least most : ℕ) {n : Natural} {v e : ℕ} → n ≡ natural_behind_tab s at least most → n ≡ Natural.Number v e → v ≤ most
+  pub natural_small : (least most : ℕ) {n : Option (ℕ × ℕ)} {v e : ℕ} → n ≡ natural_behind_tab s at least most → n ≡ Some (v, e) → v ≤ most
   natural_small least most {v = v} {e = e} p q = ((natural_tabbed least most v e).0 (sym p ∙ q)).reads.within.1
 
   module _ {range : Range} {z : ℤ} where
@@ -87,14 +83,14 @@ module _ (s : List ℕ) (at : ℕ) where
 
 -- ---- what a reading took
 
--- n is a number by its constructor, and what follows it gives r
-pub record Took {N W A : Type 0} (number : W → ℕ → N) (n : N) (f : W → ℕ → A) (r : A) : Type 0 where
+-- n is a number and the place behind it, and what follows them gives r
+pub record Took {W A : Type 0} (n : Option (W × ℕ)) (f : W → ℕ → A) (r : A) : Type 0 where
   pub v : W
   pub e : ℕ
-  pub is : n ≡ number v e
+  pub is : n ≡ Some (v, e)
   pub goes : f v e ≡ r
 
-pub number_took : {A : Type 0} (n : Natural) (f : ℕ → ℕ → A) (z r : A) → (z ≡ r → ⊥) → on_number n f z ≡ r → Took Natural.Number n f r
+pub number_took : {A : Type 0} (n : Option (ℕ × ℕ)) (f : ℕ → ℕ → A) (z r : A) → (z ≡ r → ⊥) → on_number n f z ≡ r → Took n f r
 unfolding on_number
-number_took (Natural.Number v e) f z r no-bad q = record { v = v; e = e; is = refl; goes = q }
-number_took Natural.Bad f z r no-bad q = absurd (no-bad q)
+number_took (Some (v, e)) f z r no-bad q = record { v = v; e = e; is = refl; goes = q }
+number_took None f z r no-bad q = absurd (no-bad q)

@@ -5,18 +5,13 @@ mod read;
 mod write;
 
 pub use read::{
-    Field, Natural, Range, Signed, byte_at, field_at, natural_at, natural_behind_tab, signed_at,
-    signed_behind_tab,
+    Range, byte_at, field_at, natural_at, natural_behind_tab, signed_at, signed_behind_tab,
 };
-pub use write::{Put, put_byte, put_natural, put_signed, put_text};
+pub use write::{put_byte, put_natural, put_signed, put_text};
 
 // What parts the fields of a line, and ends it.
 pub const TAB: u8 = b'\t';
 
 pub const NEWLINE: u8 = b'\n';
-
-const ZERO: u8 = b'0';
-
-const NINE: u8 = b'9';
 
 const MINUS: u8 = b'-';

@@ -1,9 +1,8 @@
 // Reading a number at a place of a text.
-ghost use Rattle.std.specs.Prelude.{◌+◌, ◌-◌, ◌*◌, ◌≡◌, leb, get_or, drop};
-ghost use Rattle.decimal.specs.Text.{is_digit};
-ghost use Rattle.decimal.specs.Read.{more, digits, unsigned, negative, field_at, natural_at, signed_at, natural_behind_tab, signed_behind_tab};
+ghost use Rattle.std.specs.Prelude.{◌+◌, ◌≡◌, ◌≤◌, get_or, drop, length};
+ghost use Rattle.decimal.specs.Read.{digit, with_digit, more, digits, field_at, natural_at, signed_at, behind_tab, natural_behind_tab, signed_behind_tab};
 
-use crate::{MINUS, NINE, TAB, ZERO};
+use crate::{MINUS, TAB};
 
 // The values from least to most and, where below is not 0, those from -below to -1.
 #[derive(Clone, Copy)]
@@ -22,193 +21,124 @@ impl Range {
     };
 }
 
-// A value and the place just behind it. Minus(v, e) is the value -1 - v, so that each value has one form.
-#[derive(Clone, Copy)]
-pub enum Field {
-    Plus(u64, usize),
-    Minus(u64, usize),
-    Bad,
-}
-
-#[derive(Clone, Copy)]
-pub enum Natural {
-    Number(u64, usize),
-    Bad,
-}
-
-#[derive(Clone, Copy)]
-pub enum Signed {
-    Number(i32, usize),
-    Bad,
-}
-
-// The number at a place, in a range: the longest run of a minus and digits. Bad where there is no digit, a
+// The number at a place, in a range, and the place just behind it: the longest run of a minus and digits. None where there is no digit, a
 // leading zero, a minus before zero, or a value out of the range, however long.
-pub fn field_at(s: &[u8], at: usize, range: Range) -> Field
+pub fn field_at(s: &[u8], at: usize, range: Range) -> Option<(i128, usize)>
     ensures { result ≡ field_at s.now at range }
 {
     if byte_at(s, at) == MINUS {
-        return behind_minus(digits_at(s, at + 1, range.below));
+        let (m, e) = digits_at(s, at + 1, range.below)?;
+        if m == 0 {
+            return None;
+        }
+        return Some((-i128::from(m), e));
     }
-    with_no_minus(range.least, digits_at(s, at, range.most))
+    let (v, e) = digits_at(s, at, range.most)?;
+    if v < range.least {
+        return None;
+    }
+    Some((i128::from(v), e))
 }
 
 // A number from least to most.
-pub fn natural_at(s: &[u8], at: usize, least: u64, most: u64) -> Natural
+pub fn natural_at(s: &[u8], at: usize, least: u64, most: u64) -> Option<(u64, usize)>
     ensures { result ≡ natural_at s.now at least most }
 {
-    match field_at(
-        s,
-        at,
-        Range {
-            below: 0,
-            least,
-            most,
-        },
-    ) {
-        Field::Plus(v, e) => Natural::Number(v, e),
-        Field::Minus(_, _) => Natural::Bad,
-        Field::Bad => Natural::Bad,
-    }
+    let range = Range {
+        below: 0,
+        least,
+        most,
+    };
+    let (v, e) = field_at(s, at, range)?;
+    Some((v as u64, e))
 }
 
 // Any signed 32-bit number.
-pub fn signed_at(s: &[u8], at: usize) -> Signed
+pub fn signed_at(s: &[u8], at: usize) -> Option<(i32, usize)>
     ensures { result ≡ signed_at s.now at }
 {
-    match field_at(s, at, Range::VALUES) {
-        Field::Plus(v, e) => Signed::Number(v as i32, e),
-        Field::Minus(v, e) => Signed::Number(!(v as i32), e),
-        Field::Bad => Signed::Bad,
-    }
+    let (v, e) = field_at(s, at, Range::VALUES)?;
+    Some((v as i32, e))
 }
 
 // A number from least to most, behind the tab at a place.
-pub fn natural_behind_tab(s: &[u8], at: usize, least: u64, most: u64) -> Natural
+#[tactic(auto, unfolding(crate::specs::Read::natural_behind_tab))]
+pub fn natural_behind_tab(s: &[u8], at: usize, least: u64, most: u64) -> Option<(u64, usize)>
     ensures { result ≡ natural_behind_tab s.now at least most }
 {
-    if byte_at(s, at) == TAB {
-        return natural_at(s, at + 1, least, most);
-    }
-    Natural::Bad
+    natural_at(s, behind_tab(s, at)?, least, most)
 }
 
 // Any signed 32-bit number, behind the tab at a place.
-pub fn signed_behind_tab(s: &[u8], at: usize) -> Signed
+#[tactic(auto, unfolding(crate::specs::Read::signed_behind_tab))]
+pub fn signed_behind_tab(s: &[u8], at: usize) -> Option<(i32, usize)>
     ensures { result ≡ signed_behind_tab s.now at }
 {
-    if byte_at(s, at) == TAB {
-        return signed_at(s, at + 1);
-    }
-    Signed::Bad
+    signed_at(s, behind_tab(s, at)?)
 }
 
 // The byte at a place. Past the end stands 0: no digit, no minus, no tab, no newline.
 pub fn byte_at(s: &[u8], at: usize) -> u8
     ensures { result ≡ get_or s.now at 0 }
 {
-    if at < s.len() {
-        return s[at];
-    }
-    0
+    s.get(at).copied().unwrap_or(0)
 }
 
-fn with_no_minus(least: u64, n: Natural) -> Field
-    ensures { result ≡ unsigned least n }
+// The place behind the tab at a place.
+fn behind_tab(s: &[u8], at: usize) -> Option<usize>
+    ensures { result ≡ behind_tab s.now at (Some (at + 1)) None }
 {
-    match n {
-        Natural::Number(v, e) => {
-            if least <= v {
-                Field::Plus(v, e)
-            } else {
-                Field::Bad
-            }
-        }
-        Natural::Bad => Field::Bad,
-    }
-}
-
-fn behind_minus(n: Natural) -> Field
-    ensures { result ≡ negative n }
-{
-    match n {
-        Natural::Number(m, e) => {
-            if m == 0 {
-                return Field::Bad;
-            }
-            Field::Minus(m - 1, e)
-        }
-        Natural::Bad => Field::Bad,
+    if byte_at(s, at) == TAB {
+        Some(at + 1)
+    } else {
+        None
     }
 }
 
 // A run of digits, worth at most most.
-fn digits_at(s: &[u8], at: usize, most: u64) -> Natural
+fn digits_at(s: &[u8], at: usize, most: u64) -> Option<(u64, usize)>
     ensures { result ≡ digits most at (drop at s.now) }
 {
-    if s.len() <= at {
-        return Natural::Bad;
+    let first = digit(byte_at(s, at))?;
+    if most < first {
+        return None;
     }
-    let b = s[at];
-    if !is_digit(b) {
-        return Natural::Bad;
-    }
-    let d = worth(b);
-    if most < d {
-        return Natural::Bad;
-    }
-    more_digits(s, at + 1, d, most)
+    more_digits(s, at + 1, first, most)
 }
 
 // The digits behind those worth first.
-fn more_digits(s: &[u8], from: usize, first: u64, most: u64) -> Natural
+fn more_digits(s: &[u8], from: usize, first: u64, most: u64) -> Option<(u64, usize)>
+    requires { from ≤ length s.now }
     ensures { result ≡ more most first from (drop from s.now) }
 {
     let mut v = first;
-    let mut i = from;
-    while i < s.len() {
-        let b = s[i];
-        if !is_digit(b) {
-            return Natural::Number(v, i);
-        }
-        if v == 0 {
-            return Natural::Bad;
-        }
-        let d = worth(b);
-        if !goes_in(v, d, most) {
-            return Natural::Bad;
-        }
-        v = v * 10 + d;
-        i += 1;
+    for i in from..s.len() {
+        let Some(d) = digit(s[i]) else {
+            return Some((v, i));
+        };
+        v = with_digit(v, d, most)?;
     }
-    Natural::Number(v, i)
+    Some((v, s.len()))
 }
 
-fn is_digit(b: u8) -> bool
-    ensures { result ≡ is_digit b }
+// What a digit is worth.
+#[tactic(auto, unfolding(crate::specs::Text::is_digit))]
+fn digit(b: u8) -> Option<u64>
+    ensures { result ≡ digit b }
 {
-    if ZERO <= b {
-        return b <= NINE;
+    match b {
+        b'0'..=b'9' => Some(u64::from(b - b'0')),
+        _ => None,
     }
-    false
 }
 
-// What a digit is worth; 0 for a byte below the digits.
-fn worth(b: u8) -> u64
-    ensures { result ≡ b - 48 }
+// v with the digit d behind it: at most most, and none behind a leading zero.
+fn with_digit(v: u64, d: u64, most: u64) -> Option<u64>
+    ensures { result ≡ with_digit most v d }
 {
-    if ZERO <= b {
-        return (b - ZERO) as u64;
+    if v == 0 {
+        return None;
     }
-    0
-}
-
-// Whether v with the digit d behind it is at most most; no sum overflows.
-fn goes_in(v: u64, d: u64, most: u64) -> bool
-    ensures { result ≡ leb (v * 10 + d) most }
-{
-    if v <= most / 10 {
-        return d <= most - v * 10;
-    }
-    false
+    let w = v.checked_mul(10)?.checked_add(d)?;
+    if w <= most { Some(w) } else { None }
 }

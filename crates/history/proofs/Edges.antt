@@ -6,7 +6,7 @@ use Rattle.decimal.specs.Read.{more, digits, unsigned, negative, field_at, as_na
 use Rattle.units.specs.Bounds.{triple}
 use Rattle.records.specs.declared.Record.TheVariants.{Start, Tune, Read, Write, Commit, Abort}
 use Rattle.history.specs.declared.Line.TheVariants.{Taken, Bad, End}
-use Rattle.history.specs.Line.{ended, tune_at, read_at, write_at, behind_name, line_at}
+use Rattle.history.specs.Line.{ended, tune_at, read_at, write_at, behind_name, record_at, line_at}
 use Rattle.history.specs.Text.{text_of}
 
 pub ranges :
@@ -27,7 +27,7 @@ pub ranges :
     × (line_at (text_of (Write 1 64)) 0 ≡ Bad)
     × (line_at (text_of (Commit 0)) 0 ≡ Bad)
     × (line_at (text_of (Abort 0)) 0 ≡ Bad)
-unfolding line_at behind_name tune_at read_at write_at ended on_number natural_behind_tab natural_at as_natural field_at digits more unsigned negative decimal spelt is_digit text_of
+unfolding line_at record_at behind_name tune_at read_at write_at ended on_number natural_behind_tab natural_at as_natural field_at digits more unsigned negative decimal spelt is_digit text_of
 ranges = (refl, refl, refl, refl, refl, refl, refl, refl, refl, refl, refl, refl, refl, refl, refl, refl, refl)
 
 -- the empty text, an empty line, `c 1` unended, with two tabs, with a space for the tab, with a leading zero, with a tab behind it, with a
@@ -43,5 +43,5 @@ pub forms :
     × (line_at (99 ∷ 9 ∷ 49 ∷ 9 ∷ 49 ∷ 10 ∷ []) 0 ≡ Bad)
     × (line_at (119 ∷ 9 ∷ 49 ∷ 10 ∷ []) 0 ≡ Bad)
     × (line_at (120 ∷ 9 ∷ 49 ∷ 10 ∷ []) 0 ≡ Bad)
-unfolding line_at behind_name tune_at read_at write_at ended on_number natural_behind_tab natural_at as_natural field_at digits more unsigned negative is_digit
+unfolding line_at record_at behind_name tune_at read_at write_at ended on_number natural_behind_tab natural_at as_natural field_at digits more unsigned negative is_digit
 forms = (refl, refl, refl, refl, refl, refl, refl, refl, refl, refl)

@@ -11,9 +11,10 @@ use borrow.Author.Tests.{le-leb, lt-leb, leb-true, eq-eqb, eqb-true}
 use lib.Dec.{leb, eqb}
 use lib.IntN.{pos}
 use lib.ListN.{length, get_or, drop}
+use Rattle.std.proofs.lemmas.Option.{some_pair_parts}
+use Rattle.std.specs.Prelude.{Option, Some, None}
 use Rattle.decimal.specs.Text.{is_digit, field}
 use Rattle.decimal.specs.Read.{naturals, natural_behind_tab, on_number, Stands, Tabbed}
-use Rattle.decimal.specs.declared.read.Natural.{Natural}
 use Rattle.decimal.proofs.Reading.{after, stands_head, stands-within}
 use Rattle.decimal.proofs.Tabs.{stands_then, stands-behind, byte_stands, natural_tabbed, tabbed_stands, tabbed_at, Took, number_took}
 use Rattle.units.specs.Bounds.{triple}
@@ -21,29 +22,29 @@ use Rattle.records.specs.declared.Record.{Record}
 use Rattle.records.specs.declared.Record.TheVariants.{Start, Tune, Read, Write, Commit, Abort}
 use Rattle.history.specs.declared.Line.{Line}
 use Rattle.history.specs.declared.Line.TheVariants.{Taken, Bad, End}
-use Rattle.history.specs.Line.{ended, tune_at, read_at, write_at, behind_name, line_at}
+use Rattle.history.specs.Line.{ended, tune_at, read_at, write_at, behind_name, record_at, line_of, line_at}
 use Rattle.history.specs.Text.{tab, newline, text_of, Within, InForm, Written}
 
-no_line : {A : Type 0} {r : Record} {e : ℕ} → Bad ≡ Taken r e → A
-no_line q = let z : ◌≡◌ {A = ℕ} 0 1 = cc in absurd (omega arith)
+no_line : {A B : Type 0} {x : B} → None ≡ Some x → A
+no_line q = absurd (cc)
 
-no_end : {A : Type 0} {r : Record} {e : ℕ} → End ≡ Taken r e → A
-no_end q = let z : ◌≡◌ {A = ℕ} 0 1 = cc in absurd (omega arith)
+taken_bad : {r : Record} {e : ℕ} → Bad ≡ Taken r e → ⊥
+taken_bad q = cc
 
 -- ---- a field
 
-module _ (s : List ℕ) (at least most : ℕ) (f : ℕ → ℕ → Line) where
+module _ (s : List ℕ) (at least most : ℕ) (f : ℕ → ℕ → Option (Record × ℕ)) where
   -- what was read
-  take : {C : Type 0} {r : Record} {e : ℕ} → on_number (natural_behind_tab s at least most) f Bad ≡ Taken r e
-      → ((v d : ℕ) → Within least most v → Stands (field (pos v)) s at d → f v d ≡ Taken r e → C) → C
+  take : {C : Type 0} {r : Record} {e : ℕ} → on_number (natural_behind_tab s at least most) f None ≡ Some (r, e)
+      → ((v d : ℕ) → Within least most v → Stands (field (pos v)) s at d → f v d ≡ Some (r, e) → C) → C
   take {C} {r} {e} q k =
-      let t : Took Natural.Number (natural_behind_tab s at least most) f (Taken r e) = number_took (natural_behind_tab s at least most) f Bad (Taken r e) no_line q in
+      let t : Took (natural_behind_tab s at least most) f (Some (r, e)) = number_took (natural_behind_tab s at least most) f None (Some (r, e)) no_line q in
       let n : Tabbed (naturals least most) s at (pos t.v) t.e = (natural_tabbed s at least most t.v t.e).0 t.is in
       k t.v t.e n.reads.within (tabbed_stands s at n) t.goes
 
   -- what stands there, before a byte that is no digit
-  give : {l : Line} {e : ℕ} (v b : ℕ) (rest : List ℕ) → is_digit b ≡ false → Within least most v → Stands (tab v (b ∷ rest)) s at e
-      → ((d : ℕ) → Stands (b ∷ rest) s d e → f v d ≡ l) → on_number (natural_behind_tab s at least most) f Bad ≡ l
+  give : {l : Option (Record × ℕ)} {e : ℕ} (v b : ℕ) (rest : List ℕ) → is_digit b ≡ false → Within least most v → Stands (tab v (b ∷ rest)) s at e
+      → ((d : ℕ) → Stands (b ∷ rest) s d e → f v d ≡ l) → on_number (natural_behind_tab s at least most) f None ≡ l
   unfolding on_number
   give {l} {e} v b rest n w p k =
       let t : Tabbed (naturals least most) s at (pos v) (at + length (field (pos v))) =
@@ -53,20 +54,19 @@ module _ (s : List ℕ) (at least most : ℕ) (f : ℕ → ℕ → Line) where
 -- ---- the newline
 
 module _ (s : List ℕ) (at : ℕ) (q : Record) where
-  ended-take : {r : Record} {e : ℕ} → ended s at q ≡ Taken r e → (q ≡ r) × Stands newline s at e
+  ended-take : {r : Record} {e : ℕ} → ended s at q ≡ Some (r, e) → (q ≡ r) × Stands newline s at e
   unfolding ended
   ended-take {r} {e} h = go (eqb (get_or s at 0) 10) refl h
     where
-      go : (t : Bool) → eqb (get_or s at 0) 10 ≡ t → cond t (Taken q (at + 1)) Bad ≡ Taken r e → (q ≡ r) × Stands newline s at e
+      go : (t : Bool) → eqb (get_or s at 0) 10 ≡ t → cond {A = Option (Record × ℕ)} t (Some (q, at + 1)) None ≡ Some (r, e) → (q ≡ r) × Stands newline s at e
       go true t h =
-          let same : q ≡ r = cc in
-          let place : at + 1 ≡ e = cc in
-          (same, subst (λ (k : ℕ). Stands newline s at k) place (byte_stands s at 10 (omega arith) (eqb-true (get_or s at 0) 10 t)))
+          let p : (q ≡ r) × (at + 1 ≡ e) = some_pair_parts q r (at + 1) e h in
+          (p.0, subst (λ (k : ℕ). Stands newline s at k) p.1 (byte_stands s at 10 (omega arith) (eqb-true (get_or s at 0) 10 t)))
       go false t h = no_line h
 
-  ended_give : {e : ℕ} → Stands newline s at e → ended s at q ≡ Taken q e
+  ended_give : {e : ℕ} → Stands newline s at e → ended s at q ≡ Some (q, e)
   unfolding ended
-  ended_give {e} p = rw (eq-eqb (get_or s at 0) 10 (stands_head s newline (omega arith) p)) (ap (λ (k : ℕ). Taken q k) (sym p.ends))
+  ended_give {e} p = rw (eq-eqb (get_or s at 0) 10 (stands_head s newline (omega arith) p)) (ap (λ (k : ℕ). Some (q, k)) (sym p.ends))
 
 -- ---- the letter
 
@@ -74,7 +74,7 @@ no_digits : (is_digit 9 ≡ false) × (is_digit 10 ≡ false)
 unfolding is_digit
 no_digits = (refl, refl)
 
-by_letter : {C : Type 0} (letter b : ℕ) {x y z : Line} → cond (eqb letter b) x y ≡ z → (letter ≡ b → x ≡ z → C) → (y ≡ z → C) → C
+by_letter : {C : Type 0} (letter b : ℕ) {x y z : Option (Record × ℕ)} → cond (eqb letter b) x y ≡ z → (letter ≡ b → x ≡ z → C) → (y ≡ z → C) → C
 by_letter {C} letter b {x} {y} {z} q yes-letter no-letter = go (eqb letter b) refl q
   where
     go : (t : Bool) → eqb letter b ≡ t → cond t x y ≡ z → C
@@ -89,7 +89,7 @@ module _ (s : List ℕ) (at : ℕ) {r : Record} {e : ℕ} where
         subst (λ (x : Record). Written s at x e) same
         (record { stands = subst (λ (l : List ℕ). Stands l s at e) (sym text) (stands_then s (byte_stands s at b some letter) p); form = form })
 
-  behind-take : (t d : ℕ) → Within 1 4294967295 t → Stands (field (pos t)) s (at + 1) d → behind_name s (get_or s at 0) t d ≡ Taken r e → Written s at r e
+  behind-take : (t d : ℕ) → Within 1 4294967295 t → Stands (field (pos t)) s (at + 1) d → behind_name s (get_or s at 0) t d ≡ Some (r, e) → Written s at r e
   unfolding behind_name tune_at read_at write_at text_of InForm
   behind-take t d w p q =
       by_letter (get_or s at 0) 115 q (λ h q.
@@ -115,24 +115,29 @@ module _ (s : List ℕ) (at : ℕ) {r : Record} {e : ℕ} where
       let z : (Abort t ≡ r) × Stands newline s d e = ended-take s d (Abort t) q in
       made 97 (omega arith) h (Abort t) (tab t newline) refl (stands_then s p z.1) w z.0) (λ q. no_line q))))))
 
+  record_reads : record_at s at ≡ Some (r, e) → Written s at r e
+  unfolding record_at
+  record_reads q = take s (at + 1) 1 4294967295 (λ t d. behind_name s (get_or s at 0) t d) q (λ t d w p q. behind-take t d w p q)
+
   -- what is answered stands there
   pub line_reads : line_at s at ≡ Taken r e → Written s at r e
   unfolding line_at
-  line_reads q = go (leb (length s) at) q
+  line_reads q = go (leb (length s) at) (record_at s at) refl q
     where
-      go : (t : Bool) → cond t End (on_number (natural_behind_tab s (at + 1) 1 4294967295) (λ t d. behind_name s (get_or s at 0) t d) Bad) ≡ Taken r e → Written s at r e
-      go true q = no_end q
-      go false q = take s (at + 1) 1 4294967295 (λ t d. behind_name s (get_or s at 0) t d) q (λ t d w p q. behind-take t d w p q)
+      go : (t : Bool) (l : Option (Record × ℕ)) → record_at s at ≡ l → cond t End (line_of l) ≡ Taken r e → Written s at r e
+      go true l p q = absurd (cc)
+      go false None p q = absurd (cc)
+      go false (Some (x, d)) p q = let y : x ≡ r = cc in let z : d ≡ e = cc in record_reads (rw (← y, ← z) p)
 
 module _ (s : List ℕ) (at : ℕ) where
   -- a letter and T, before a byte that is no digit
-  opens : {l : Line} {e : ℕ} (letter t b : ℕ) (rest : List ℕ) → is_digit b ≡ false → Within 1 4294967295 t → Stands (letter ∷ tab t (b ∷ rest)) s at e
-      → ((d : ℕ) → Stands (b ∷ rest) s d e → behind_name s letter t d ≡ l) → line_at s at ≡ l
-  unfolding line_at
-  opens {l} letter t b rest n w p k =
+  opens : {r : Record} {e : ℕ} (letter t b : ℕ) (rest : List ℕ) → is_digit b ≡ false → Within 1 4294967295 t → Stands (letter ∷ tab t (b ∷ rest)) s at e
+      → ((d : ℕ) → Stands (b ∷ rest) s d e → behind_name s letter t d ≡ Some (r, e)) → line_at s at ≡ Taken r e
+  unfolding line_at record_at
+  opens {r} {e} letter t b rest n w p k =
       let first : get_or s at 0 ≡ letter = stands_head s (letter ∷ tab t (b ∷ rest)) (omega arith) p in
       rw (lt-leb (length s) at (stands-within s (letter ∷ tab t (b ∷ rest)) (omega arith) p), first)
-      (give s (at + 1) 1 4294967295 (λ t d. behind_name s letter t d) t b rest n w (stands-behind s (letter ∷ []) (tab t (b ∷ rest)) p) k)
+      (ap line_of (give s (at + 1) 1 4294967295 (λ t d. behind_name s letter t d) t b rest n w (stands-behind s (letter ∷ []) (tab t (b ∷ rest)) p) k))
 
   -- what stands there is answered
   pub line_read : (r : Record) (e : ℕ) → Written s at r e → line_at s at ≡ Taken r e
@@ -159,59 +164,26 @@ module _ (s : List ℕ) (at : ℕ) where
 
 -- ---- the end, and what is not of the form
 
-abbrev is_end : Line → Bool
-is_end (Taken r e) = false
-is_end Bad = false
-is_end End = true
-
-number_on : (n : Natural) (f : ℕ → ℕ → Line) → ((v e : ℕ) → is_end (f v e) ≡ false) → is_end (on_number n f Bad) ≡ false
-unfolding on_number
-number_on (Natural.Number v e) f h = h v e
-number_on Natural.Bad f h = refl
-
-cond_on : (t : Bool) (x y : Line) → is_end x ≡ false → is_end y ≡ false → is_end (cond t x y) ≡ false
-cond_on true x y g h = g
-cond_on false x y g h = h
-
-ended_on : (s : List ℕ) (at : ℕ) (r : Record) → is_end (ended s at r) ≡ false
-unfolding ended
-ended_on s at r = cond_on (eqb (get_or s at 0) 10) (Taken r (at + 1)) Bad refl refl
-
-behind_on : (s : List ℕ) (letter t at : ℕ) → is_end (behind_name s letter t at) ≡ false
-unfolding behind_name tune_at read_at write_at
-behind_on s letter t at =
-    cond_on (eqb letter 115) _ _ (ended_on s at (Start t))
-    (cond_on (eqb letter 107) _ _ (number_on _ _ (λ k1 a. number_on _ _ (λ k2 b. number_on _ _ (λ k3 e. ended_on s e (Tune t (triple k1 k2 k3))))))
-    (cond_on (eqb letter 114) _ _ (number_on _ _ (λ x a. number_on _ _ (λ w e. ended_on s e (Read t x w))))
-    (cond_on (eqb letter 119) _ _ (number_on _ _ (λ x e. ended_on s e (Write t x)))
-    (cond_on (eqb letter 99) _ _ (ended_on s at (Commit t))
-    (cond_on (eqb letter 97) _ _ (ended_on s at (Abort t)) refl)))))
-
 module _ (s : List ℕ) (at : ℕ) where
   -- the end is answered exactly if nothing is left
   pub end_exactly : (line_at s at ≡ End) ↔ (length s ≤ at)
   unfolding line_at
-  end_exactly = (λ q. go (leb (length s) at) refl q, λ h. rw (le-leb (length s) at h))
+  end_exactly = (λ q. go (leb (length s) at) (record_at s at) refl q, λ h. rw (le-leb (length s) at h))
     where
-      go : (t : Bool) → leb (length s) at ≡ t → cond t End (on_number (natural_behind_tab s (at + 1) 1 4294967295) (λ t e. behind_name s (get_or s at 0) t e) Bad) ≡ End → length s ≤ at
-      go true h q = leb-true (length s) at h
-      go false h q =
-          let f : is_end (on_number (natural_behind_tab s (at + 1) 1 4294967295) (λ t e. behind_name s (get_or s at 0) t e) Bad) ≡ false =
-          number_on (natural_behind_tab s (at + 1) 1 4294967295) (λ t e. behind_name s (get_or s at 0) t e) (λ t e. behind_on s (get_or s at 0) t e) in
-          let g : true ≡ false = sym (ap is_end q) ∙ f in
-          let z : ◌≡◌ {A = ℕ} 0 1 = cc in
-          absurd (omega arith)
+      go : (t : Bool) (l : Option (Record × ℕ)) → leb (length s) at ≡ t → cond t End (line_of l) ≡ End → length s ≤ at
+      go true l h q = leb-true (length s) at h
+      go false None h q = absurd (cc)
+      go false (Some (r, e)) h q = absurd (cc)
 
   -- nothing of the form is answered exactly if something is left, and no record's text stands there
   pub bad_exactly : (line_at s at ≡ Bad) ↔ ((at < length s) × ((r : Record) (e : ℕ) → Written s at r e → ⊥))
-  bad_exactly = (λ q. (left (dec_lt at (length s)) q, λ r e w. no_line (sym q ∙ line_read s at r e w)), λ h. go (line_at s at) refl h)
+  bad_exactly = (λ q. (left (dec_lt at (length s)) q, λ r e w. absurd (taken_bad (sym q ∙ line_read s at r e w))), λ h. go (line_at s at) refl h)
     where
       left : Dec (at < length s) → line_at s at ≡ Bad → at < length s
       left (yes l) q = l
       left (no l) q =
           let e : End ≡ Bad = sym (end_exactly.1 (omega arith)) ∙ q in
-          let z : ◌≡◌ {A = ℕ} 0 1 = cc in
-          absurd (omega arith)
+          absurd (cc)
 
       go : (l : Line) → line_at s at ≡ l → (at < length s) × ((r : Record) (e : ℕ) → Written s at r e → ⊥) → line_at s at ≡ Bad
       go (Taken r e) q h = absurd (h.1 r e (line_reads s at q))

@@ -1,10 +1,10 @@
 // A line of a written history as a record: document 01, "Written histories".
 #![tactic(auto)]
 
-ghost use Rattle.std.specs.Prelude.{◌≡◌};
-ghost use Rattle.history.specs.Line.{ended, tune_at, read_at, write_at, behind_name, line_reply, line_said};
+ghost use Rattle.std.specs.Prelude.{◌<◌, ◌≡◌, length};
+ghost use Rattle.history.specs.Line.{ended, tune_at, read_at, write_at, behind_name, record_at, line_reply, line_said};
 
-use decimal::{NEWLINE, Natural, byte_at, natural_behind_tab};
+use decimal::{NEWLINE, byte_at, natural_behind_tab};
 use records::Record;
 use units::{Bounds, limits};
 
@@ -32,15 +32,24 @@ pub fn line_at(text: &[u8], at: usize) -> Line
     if text.len() <= at {
         return Line::End;
     }
+    match record_at(text, at) {
+        Some((r, next)) => Line::Taken(r, next),
+        None => Line::Bad,
+    }
+}
+
+// The record whose letter stands at a place, and the place of the next line.
+fn record_at(text: &[u8], at: usize) -> Option<(Record, usize)>
+    requires { at < length text.now }
+    ensures { result ≡ record_at text.now at }
+{
     let letter = text[at];
-    let Natural::Number(t, e) = natural_behind_tab(text, at + 1, 1, LAST_NAME) else {
-        return Line::Bad;
-    };
+    let (t, e) = natural_behind_tab(text, at + 1, 1, LAST_NAME)?;
     behind_name(text, letter, t as u32, e)
 }
 
 // Every form begins with its letter and T; what follows goes by the letter.
-fn behind_name(text: &[u8], letter: u8, t: u32, at: usize) -> Line
+fn behind_name(text: &[u8], letter: u8, t: u32, at: usize) -> Option<(Record, usize)>
     ensures { result ≡ behind_name text.now letter t at }
 {
     match letter {
@@ -50,22 +59,16 @@ fn behind_name(text: &[u8], letter: u8, t: u32, at: usize) -> Line
         b'w' => write_at(text, t, at),
         b'c' => ended(text, at, Record::Commit(t)),
         b'a' => ended(text, at, Record::Abort(t)),
-        _ => Line::Bad,
+        _ => None,
     }
 }
 
-fn tune_at(text: &[u8], t: u32, at: usize) -> Line
+fn tune_at(text: &[u8], t: u32, at: usize) -> Option<(Record, usize)>
     ensures { result ≡ tune_at text.now t at }
 {
-    let Natural::Number(k1, a) = natural_behind_tab(text, at, 1, LAST_BOUND) else {
-        return Line::Bad;
-    };
-    let Natural::Number(k2, b) = natural_behind_tab(text, a, 0, LAST_BOUND) else {
-        return Line::Bad;
-    };
-    let Natural::Number(k3, e) = natural_behind_tab(text, b, 0, LAST_BOUND) else {
-        return Line::Bad;
-    };
+    let (k1, a) = natural_behind_tab(text, at, 1, LAST_BOUND)?;
+    let (k2, b) = natural_behind_tab(text, a, 0, LAST_BOUND)?;
+    let (k3, e) = natural_behind_tab(text, b, 0, LAST_BOUND)?;
     let bounds = Bounds {
         k1: k1 as u16,
         k2: k2 as u16,
@@ -74,33 +77,27 @@ fn tune_at(text: &[u8], t: u32, at: usize) -> Line
     ended(text, e, Record::Tune(t, bounds))
 }
 
-fn read_at(text: &[u8], t: u32, at: usize) -> Line
+fn read_at(text: &[u8], t: u32, at: usize) -> Option<(Record, usize)>
     ensures { result ≡ read_at text.now t at }
 {
-    let Natural::Number(key, a) = natural_behind_tab(text, at, 0, LAST_KEY) else {
-        return Line::Bad;
-    };
-    let Natural::Number(source, e) = natural_behind_tab(text, a, 0, LAST_NAME) else {
-        return Line::Bad;
-    };
+    let (key, a) = natural_behind_tab(text, at, 0, LAST_KEY)?;
+    let (source, e) = natural_behind_tab(text, a, 0, LAST_NAME)?;
     ended(text, e, Record::Read(t, key as u8, source as u32))
 }
 
-fn write_at(text: &[u8], t: u32, at: usize) -> Line
+fn write_at(text: &[u8], t: u32, at: usize) -> Option<(Record, usize)>
     ensures { result ≡ write_at text.now t at }
 {
-    let Natural::Number(key, e) = natural_behind_tab(text, at, 0, LAST_KEY) else {
-        return Line::Bad;
-    };
+    let (key, e) = natural_behind_tab(text, at, 0, LAST_KEY)?;
     ended(text, e, Record::Write(t, key as u8))
 }
 
 // A record whose last field ends before a place.
-fn ended(text: &[u8], at: usize, r: Record) -> Line
+fn ended(text: &[u8], at: usize, r: Record) -> Option<(Record, usize)>
     ensures { result ≡ ended text.now at r }
 {
     if byte_at(text, at) != NEWLINE {
-        return Line::Bad;
+        return None;
     }
-    Line::Taken(r, at + 1)
+    Some((r, at + 1))
 }

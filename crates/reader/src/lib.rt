@@ -4,7 +4,7 @@
 
 ghost use Rattle.std.specs.Prelude.{◌≡◌};
 ghost use Rattle.history.specs.Line.{line_reply, line_said};
-ghost use Rattle.reader.specs.Reader.{place_after, moved_by};
+ghost use Rattle.reader.specs.Reader.{moved_by};
 
 use history::{Line, line_at};
 
@@ -15,21 +15,15 @@ pub struct Reader<'a> {
 }
 
 // The line at the reader's place; the reader moves behind it. Where there is no record it stays.
-pub fn next<'s, 'a>(r: &'s mut Reader<'a>) -> Line
+#[tactic(auto, unfolding(crate::specs::Reader::place_after))]
+pub fn next(r: &mut Reader) -> Line
     ensures line { line_reply result ≡ line_said r.old.text.now r.old.at }
     ensures reader { r.new ≡ moved_by result r.old }
 {
-    let l = line_at(r.text, r.at);
-    r.at = after(l, r.at);
-    l
-}
-
-fn after(l: Line, at: usize) -> usize
-    ensures { result ≡ place_after l at }
-{
-    match l {
-        Line::Taken(_, next) => next,
-        Line::Bad => at,
-        Line::End => at,
+    let line = line_at(r.text, r.at);
+    match line {
+        Line::Taken(_, next) => r.at = next,
+        Line::Bad | Line::End => {}
     }
+    line
 }

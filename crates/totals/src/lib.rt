@@ -2,15 +2,12 @@
 // record that moves them: document 01, "What form each place takes".
 #![tactic(auto)]
 
-ghost use Rattle.std.specs.Prelude.{◌+◌, ◌-◌, min, ◌≡◌};
+ghost use Rattle.std.specs.Prelude.{◌≡◌};
 ghost use Rattle.records.specs.Totals.{raise_started, raise_committed, raise_aborted, raised};
 
 use records::{Record, Totals};
 
-// The largest number of 32 bits.
-const LAST: u32 = 4294967295;
-
-// The totals after a record: it chooses the counters.
+// The totals after a record: it chooses the counters. No counter wraps; no history comes near the last number.
 pub fn raise(t: &mut Totals, e: Record)
     ensures { t.new ≡ raised e t.old }
 {
@@ -27,39 +24,20 @@ pub fn raise(t: &mut Totals, e: Record)
 pub fn raise_started(t: &mut Totals)
     ensures { t.new ≡ raise_started t.old }
 {
-    t.started = more(t.started);
-    t.open = more(t.open);
+    t.started = t.started.saturating_add(1);
+    t.open = t.open.saturating_add(1);
 }
 
 pub fn raise_committed(t: &mut Totals)
     ensures { t.new ≡ raise_committed t.old }
 {
-    t.committed = more(t.committed);
-    t.open = less(t.open);
+    t.committed = t.committed.saturating_add(1);
+    t.open = t.open.saturating_sub(1);
 }
 
 pub fn raise_aborted(t: &mut Totals)
     ensures { t.new ≡ raise_aborted t.old }
 {
-    t.aborted = more(t.aborted);
-    t.open = less(t.open);
-}
-
-// No counter wraps; no history comes near the last number.
-fn more(n: u32) -> u32
-    ensures { result ≡ min (n + 1) 4294967295 }
-{
-    if n <= LAST - 1 {
-        return n + 1;
-    }
-    LAST
-}
-
-fn less(n: u32) -> u32
-    ensures { result ≡ n - 1 }
-{
-    if 1 <= n {
-        return n - 1;
-    }
-    0
+    t.aborted = t.aborted.saturating_add(1);
+    t.open = t.open.saturating_sub(1);
 }
