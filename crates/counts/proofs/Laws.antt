@@ -1,37 +1,26 @@
 -- What the counts of document 01 are in terms of those that the code walks for.
-use Prim.Native.Nat.{ℕ, suc, ◌+◌, ◌-◌, ◌<◌, ◌≤◌}
+use Prim.Native.Nat.{ℕ, suc, ◌+◌, ◌≤◌}
 use native.Mathlib.Omega.{arith}
 use native.Mathlib.Numerals.{add-one}
-use mathlib.Core.Path.{◌≡◌, refl, sym, ◌∙◌, ap, fun_ext}
-use mathlib.Core.Bool.{Bool, true, false, cond, ◌&&◌, ◌||◌, and-false}
+use mathlib.Core.Path.{◌≡◌, refl, ◌∙◌}
+use mathlib.Core.Bool.{Bool, true, false, cond, ◌&&◌, ◌||◌}
 use mathlib.Core.List.{List, [], ◌∷◌}
-use lib.Dec.{leb, ltb, leb-zero, leb-suc-suc}
-use borrow.Author.Tests.{ltb-true, leb-true, leb-false, lt-ltb, le-ltb}
+use lib.Dec.{leb, ltb, leb-suc-suc}
+use borrow.Author.Tests.{leb-true, leb-false, lt-ltb, le-ltb}
 use Rattle.lists.specs.Lists.{count, any}
-use Rattle.lists.proofs.Every.{every_each}
-use Rattle.lists.proofs.Count.{count_none}
-use Rattle.lists.proofs.Tests.{leb-before}
-use Rattle.model.specs.Log.{Entry, of_key, up_to, between, changed_after, versions}
-use Rattle.counts.specs.Within.{within}
+use Rattle.model.specs.Log.{Entry, of_key, up_to, changed_after, versions}
+use Rattle.memory.specs.Memory.{entry_at, entries}
+use Rattle.counts.specs.Where.{counted}
 
--- "at or before t" has no lower end
-pub up-to : (log : List Entry) (x t : ℕ) → within log x 0 t ≡ up_to log x t
-unfolding within up_to
-up-to log x t = simp leb-zero
+-- one version more, of which the test holds, and of which it does not
+module _ (p : ℕ → ℕ → Bool) (ws : List ℕ) (i n : ℕ) (before : n ≡ counted p (entries ws i)) where
+  pub counted-hit : p (entry_at ws i).key (entry_at ws i).stamp ≡ true → n + 1 ≡ counted p (entries ws (i + 1))
+  unfolding counted entries count
+  counted-hit h = rw (add-one i, h, before, add-one)
 
--- "strictly after .. and strictly before", of two stamps in order
-pub strictly : (log : List Entry) (x after before : ℕ) → after < before → within log x (after + 1) (before - 1) ≡ between log x after before
-unfolding within between
-strictly log x after before h = ap (λ (p : Entry → Bool). count p log) (fun_ext (λ (e : Entry). rw (add-one after, leb-before e.stamp before (omega arith))))
-
--- and of two that are not: nothing lies between
-pub nothing-between : (log : List Entry) (x after before : ℕ) → before ≤ after → 0 ≡ between log x after before
-unfolding between
-nothing-between log x after before h = sym (count_none _ (every_each (λ e. go (of_key x e) e.stamp (ltb after e.stamp) refl) log))
-  where
-    go : (k : Bool) (s : ℕ) (b : Bool) → ltb after s ≡ b → (k && (ltb after s && ltb s before)) ≡ false
-    go k s true e = rw (e, le-ltb s before (omega (arith, ltb-true after s e))) (and-false k)
-    go k s false e = rw e (and-false k)
+  pub counted-miss : p (entry_at ws i).key (entry_at ws i).stamp ≡ false → n ≡ counted p (entries ws (i + 1))
+  unfolding counted entries count
+  counted-miss h = rw (add-one i, h) before
 
 -- a key that has more versions than up to t has one after t
 up_to_le : (log : List Entry) (x t : ℕ) → up_to log x t ≤ versions log x

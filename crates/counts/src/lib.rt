@@ -1,84 +1,54 @@
 // What document 01 counts in the log, over the master's memory.
 #![tactic(auto)]
 
-ghost use Rattle.std.specs.Prelude.{◌≡◌, ◌&&◌, eqb, leb};
+ghost use Rattle.std.specs.Prelude.{◌≡◌, ℕ, Bool};
 ghost use Rattle.model.specs.Log.{up_to, between, changed_after, versions};
+ghost use Rattle.memory.specs.Tests.{Says};
 ghost use Rattle.memory.specs.Memory.{log_of, length_of};
-ghost use Rattle.lists.specs.Lists.{bit};
-ghost use Rattle.counts.specs.Within.{within};
+ghost use Rattle.counts.specs.Where.{counted};
 
 use memory::{KEYS, LENGTH, STAMPS, WORDS};
-use units::{Stamp, at_most, limits};
+use units::{Stamp, limits};
 
 pub fn length_of(memory: &[u32; WORDS]) -> usize
     ensures { result ≡ length_of memory.now }
 {
-    at_most(wide(memory[LENGTH]), limits::LOG)
+    (memory[LENGTH] as usize).min(limits::LOG)
 }
 
-fn wide(w: u32) -> usize
-    ensures { result ≡ w }
+// How many versions of the log a test of key and stamp holds of.
+fn count_where<F: Fn(u32, u32) -> bool>(memory: &[u32; WORDS], test: F) -> u32
+    requires { F.IsAlwaysCallable test }
+    ensures { (p : ℕ → ℕ → Bool) → Says (λ k s r. F.post test k s r) p → result ≡ counted p (log_of memory.now) }
 {
-    w as usize
+    let mut n = 0;
+    for i in 0..length_of(memory) {
+        if test(memory[KEYS + i], memory[STAMPS + i]) {
+            n += 1;
+        }
+    }
+    n
 }
 
 // O_x(t): the versions of a key with a stamp at or before `until`.
 pub fn count_up_to(memory: &[u32; WORDS], key: u32, until: Stamp) -> u32
     ensures { result ≡ up_to (log_of memory.now) key until.0 }
 {
-    count_within(memory, key, 0, until.0)
+    count_where(memory, |k, s| k == key && s <= until.0)
 }
 
 // The versions of a key strictly after one stamp and strictly before another.
 pub fn count_between(memory: &[u32; WORDS], key: u32, after: Stamp, before: Stamp) -> u32
     ensures { result ≡ between (log_of memory.now) key after.0 before.0 }
 {
-    if after.0 < before.0 {
-        return count_within(memory, key, after.0 + 1, before.0 - 1);
-    }
-    0
-}
-
-fn count_within(memory: &[u32; WORDS], key: u32, low: u32, high: u32) -> u32
-    ensures { result ≡ within (log_of memory.now) key low high }
-{
-    let end = length_of(memory);
-    let mut n: u32 = 0;
-    let mut i = 0;
-    while i < end {
-        n += one_if_within(memory[KEYS + i], memory[STAMPS + i], key, low, high);
-        i += 1;
-    }
-    n
-}
-
-fn one_if_within(k: u32, s: u32, key: u32, low: u32, high: u32) -> u32
-    ensures { result ≡ bit (eqb k key && (leb low s && leb s high)) }
-{
-    if k != key {
-        return 0;
-    }
-    if s < low {
-        return 0;
-    }
-    if high < s {
-        return 0;
-    }
-    1
+    count_where(memory, |k, s| k == key && after.0 < s && s < before.0)
 }
 
 // How many versions a key has.
 pub fn count_versions(memory: &[u32; WORDS], key: u32) -> u32
     ensures { result ≡ versions (log_of memory.now) key }
 {
-    let end = length_of(memory);
-    let mut n: u32 = 0;
-    let mut i = 0;
-    while i < end {
-        n += one_if_same(memory[KEYS + i], key);
-        i += 1;
-    }
-    n
+    count_where(memory, |k, _| k == key)
 }
 
 // Whether some version of a key has a stamp above `since`: then it has more versions than up to there.
@@ -86,10 +56,4 @@ pub fn changed_after(memory: &[u32; WORDS], key: u32, since: Stamp) -> bool
     ensures { result ≡ changed_after (log_of memory.now) key since.0 }
 {
     count_up_to(memory, key, since) < count_versions(memory, key)
-}
-
-fn one_if_same(k: u32, key: u32) -> u32
-    ensures { result ≡ bit (eqb k key) }
-{
-    if k == key { 1 } else { 0 }
 }

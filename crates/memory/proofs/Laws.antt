@@ -1,14 +1,14 @@
 -- What is stored at a place is loaded there again, and nothing else is touched.
 use Prim.Native.Nat.{ℕ, zero, suc, ◌+◌, ◌*◌, ◌<◌, ◌≤◌, max}
 use native.Mathlib.Omega.{arith}
-use native.Mathlib.Nat.{add-zero, add-suc, suc-add, mod-eq_of_lt, mod-lt}
+use native.Mathlib.Nat.{add-zero, add-suc, suc-add, mul-suc, mul-zero, mod-eq_of_lt, mod-lt}
 use native.Mathlib.Decide.{ℕ_discrete, dec_lt}
 use mathlib.Core.Path.{◌≡◌, refl, sym, ◌∙◌}
 use mathlib.Core.Bool.{Bool, true, false, not, cond}
 use mathlib.Core.List.{List, [], ◌∷◌}
 use lib.Dec.{eqb, ltb}
 use lib.IntN.{ℤ}
-use lib.ListN.{length, get_or, set, length-set, get_or-eq_default, replicate, get_or-replicate, length-replicate}
+use lib.ListN.{length, length-append, get_or, set, length-set, get_or-eq_default, replicate, get_or-replicate, length-replicate}
 use borrow.Author.Tests.{ltb-true}
 use lib.Seq.{get_or-set_same, get_or-set_other, sets, length-sets}
 use mir.Syntax.{w32}
@@ -19,7 +19,7 @@ use Rattle.transaction.specs.declared.Write.{Write}
 use Rattle.transaction.specs.declared.Transaction.{Transaction}
 use Rattle.transaction.specs.Transaction.{no_mark, no_write, fresh, written, wrote_at}
 use Rattle.model.specs.State.{no_transaction}
-use Rattle.memory.specs.Memory.{tab, base_of, mark_at, write_at, loaded, mark_words, write_words, head_words, stored, entries, places_of, length_of, log_of, state_of, Good}
+use Rattle.memory.specs.Memory.{tab, base_of, mark_at, write_at, loaded, words_of_mark, words_of_write, row_words, mark_words, write_words, head_words, stored, entries, places_of, length_of, log_of, state_of, Good}
 use Rattle.memory.proofs.Tables.{length-tab, get_or-tab, is_tab}
 use Rattle.memory.proofs.Words.{value-fits}
 use Rattle.memory.specs.Layout.{clock_at, desk_from, keys_from, live_at, ordinals_from, place_words, reads_from, stamps_from, values_from, word_count, writes_from}
@@ -52,18 +52,13 @@ module _ {A : Type 0} (d : A) where
       go j k (no e) = get_or-set_other (tab f n) i j x d e ∙ get_or-tab f n j d k ∙ sym (other j k e)
 
 -- ---- the words of reads and writes
-pub length-marks : (l : List Mark) → length (mark_words l) ≡ 3 * length l
-unfolding mark_words
-length-marks [] = refl
-length-marks (m ∷ ms) = let e = length-marks ms in omega arith
-
-pub length-writes : (l : List Write) → length (write_words l) ≡ 2 * length l
-unfolding write_words
-length-writes [] = refl
-length-writes (w ∷ ws) = let e = length-writes ws in omega arith
+pub length-row : {A : Type 0} (f : A → List ℕ) (w : ℕ) → ((x : A) → length (f x) ≡ w) → (l : List A) → length (row_words f l) ≡ w * length l
+unfolding row_words
+length-row f w h [] = sym (mul-zero w)
+length-row f w h (x ∷ xs) = let e = length-row f w h xs in let g = h x in let m = mul-suc w (length xs) in simp (length-append, g, e) (omega (arith, m))
 
 pub mark_word : (l : List Mark) (i : ℕ) → mark_at (mark_words l) (3 * i) ≡ get_or l i no_mark
-unfolding mark_words
+unfolding row_words
 mark_word [] i = refl
 mark_word (m ∷ ms) zero = refl
 mark_word (m ∷ ms) (suc i) =
@@ -73,7 +68,7 @@ mark_word (m ∷ ms) (suc i) =
     rw (e0, e1, e2) (mark_word ms i)
 
 pub write-words : (l : List Write) (i : ℕ) → SFits w32 (get_or l i no_write).value → write_at (write_words l) (2 * i) ≡ get_or l i no_write
-unfolding write_words
+unfolding row_words
 write-words [] i f = refl
 write-words (w ∷ ws) zero f = rw (to_z-of_z f)
 write-words (w ∷ ws) (suc i) f =
@@ -104,10 +99,10 @@ module _ (ws : List ℕ) (p : ℕ) (t : Transaction) where
 
   module _ (g : Good t) where
     marks : length (mark_words t.reads) ≡ 48
-    marks = omega (arith, length-marks t.reads, g.reads)
+    marks = omega (arith, length-row words_of_mark 3 (λ m. refl) t.reads, g.reads)
 
     values : length (write_words t.writes) ≡ 32
-    values = omega (arith, length-writes t.writes, g.writes)
+    values = omega (arith, length-row words_of_write 2 (λ m. refl) t.writes, g.writes)
 
     pub word_behind : (j : ℕ) → base_of p + place_words ≤ j → get_or (stored ws p t) j 0 ≡ get_or ws j 0
     unfolding stored

@@ -2,18 +2,15 @@
 use Prim.Native.Nat.{ℕ, zero, suc, ◌+◌, ◌*◌, ◌<◌, ◌≤◌}
 use native.Mathlib.Omega.{arith}
 use native.Mathlib.Numerals.{add-one}
+use native.Mathlib.Nat.{add-zero, add-suc, suc-add, mul-suc}
 use native.Mathlib.Decide.{ℕ_discrete}
 use mathlib.Core.Path.{◌≡◌, refl, sym, ap, ◌∙◌}
-use mathlib.Core.List.{List, [], ◌∷◌}
+use mathlib.Core.List.{List, [], ◌∷◌, ◌++◌}
 use lib.ListN.{length, get_or, set, drop, drop_of_length-le}
-use mir.Syntax.{w32}
-use mir.Val.{of_z, bool_byte}
+use mir.Val.{bool_byte}
 use Rattle.transaction.specs.declared.Transaction.{Transaction}
 use lib.Seq.{ext_get_or, get_or-set_same, get_or-set_other, drop-cons, sets}
-use Rattle.transaction.specs.declared.Mark.{Mark}
-use Rattle.transaction.specs.declared.Write.{Write}
-use Rattle.transaction.specs.Transaction.{no_mark, no_write}
-use Rattle.memory.specs.Memory.{tab, base_of, mark_words, write_words, stored}
+use Rattle.memory.specs.Memory.{tab, base_of, mark_words, write_words, row_words, stored}
 
 module _ {A : Type 0} where
   pub length-tab : (f : ℕ → A) (n : ℕ) → length (tab f n) ≡ n
@@ -40,31 +37,23 @@ module _ {A : Type 0} where
       go (yes q) = rw (q, get_or-set_same l i x d h) e
       go (no q) = get_or-set_other l i j x d q ∙ before j (omega arith)
 
-module _ (ws : List ℕ) (at i : ℕ) where
-  pub reads-step : (l : List Mark) → i < length l
-      → sets (set (set (set ws (at + 3 * i) (get_or l i no_mark).key) (at + 3 * i + 1) (get_or l i no_mark).ordinal.0) (at + 3 * i + 2) (get_or l i no_mark).stamp.0) (at + 3 * (i + 1)) (mark_words (drop (i + 1) l))
-      ≡ sets ws (at + 3 * i) (mark_words (drop i l))
-  unfolding mark_words
-  reads-step l h =
-      let e : at + 3 * (i + 1) ≡ suc (suc (suc (at + 3 * i))) = omega arith in
-      let f : at + 3 * i + 2 ≡ suc (suc (at + 3 * i)) = omega arith in
-      rw (drop-cons l i no_mark h, e, f, add-one (at + 3 * i), add-one i)
+-- words laid down one run behind the other are laid down at once
+pub sets_append : {A : Type 0} (l : List A) (at : ℕ) (xs ys : List A) → sets (sets l at xs) (at + length xs) ys ≡ sets l at (xs ++ ys)
+sets_append l at [] ys = rw add-zero
+sets_append l at (x ∷ xs) ys = rw (add-suc at (length xs), ← suc-add at (length xs)) (sets_append (set l at x) (suc at) xs ys)
 
-  pub writes-step : (l : List Write) (x : ℕ) → i < length l → x ≡ of_z w32 (get_or l i no_write).value
-      → sets (set (set ws (at + 2 * i) (get_or l i no_write).key) (at + 2 * i + 1) x) (at + 2 * (i + 1)) (write_words (drop (i + 1) l))
-      ≡ sets ws (at + 2 * i) (write_words (drop i l))
-  unfolding write_words
-  writes-step l x h v =
-      let e : at + 2 * (i + 1) ≡ suc (suc (at + 2 * i)) = omega arith in
-      rw (v, drop-cons l i no_write h, e, add-one (at + 2 * i), add-one i)
+-- a row laid down from its i-th on
+module _ {A : Type 0} (f : A → List ℕ) (w : ℕ) (as_many : (x : A) → length (f x) ≡ w) where
+  pub row-step : (ws : List ℕ) (from i : ℕ) (l : List A) (x : A) → i < length l → get_or l i x ≡ x
+      → sets (sets ws (from + w * i) (f x)) (from + w * (i + 1)) (row_words f (drop (i + 1) l)) ≡ sets ws (from + w * i) (row_words f (drop i l))
+  unfolding row_words
+  row-step ws from i l x h e =
+      let n : from + w * (i + 1) ≡ from + w * i + length (f x) = let m = mul-suc w i in let g = as_many x in rw (add-one i) (omega (arith, m)) in
+      rw (n, sets_append ws (from + w * i) (f x) (row_words f (drop (i + 1) l)), drop-cons l i x h, e, add-one i)
 
-  pub reads_end : (l : List Mark) → length l ≤ i → ws ≡ sets ws (at + 3 * i) (mark_words (drop i l))
-  unfolding mark_words
-  reads_end l h = rw (drop_of_length-le l h)
-
-  pub writes_end : (l : List Write) → length l ≤ i → ws ≡ sets ws (at + 2 * i) (write_words (drop i l))
-  unfolding write_words
-  writes_end l h = rw (drop_of_length-le l h)
+  pub row_end : (ws : List ℕ) (from i : ℕ) (l : List A) → length l ≤ i → ws ≡ sets ws (from + w * i) (row_words f (drop i l))
+  unfolding row_words
+  row_end ws from i l h = rw (drop_of_length-le l h)
 
 -- the seven words in front of a transaction's reads and writes
 pub head_stored : (ws : List ℕ) (b : ℕ) (x0 x1 x2 x3 x4 x5 x6 : ℕ)

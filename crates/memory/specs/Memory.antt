@@ -1,5 +1,5 @@
 -- What the words of the master's memory stand for.
-use Rattle.std.specs.Prelude.{ℕ, zero, suc, ◌+◌, ◌*◌, ◌%◌, ◌<◌, min, ◌≡◌, not, List, [], ◌∷◌, eqb, length, get_or}
+use Rattle.std.specs.Prelude.{ℕ, zero, suc, ◌+◌, ◌*◌, ◌%◌, ◌<◌, min, ◌≡◌, not, List, [], ◌∷◌, ◌++◌, eqb, length, get_or}
 use Rattle.std.proofs.lemmas.List.Edits.{sets}
 use Rattle.std.specs.Int.{w32}
 use mir.Val.{SFits, to_z, of_z, bool_byte}
@@ -39,13 +39,23 @@ loaded ws p =
       written = get_or ws (base_of p + 6) 0;
     }
 
-unfoldable pub mark_words : List Mark → List ℕ
-mark_words [] = []
-mark_words (m ∷ ms) = m.key ∷ m.ordinal.0 ∷ m.stamp.0 ∷ mark_words ms
+-- the words that say a recorded read, and a written key
+abbrev pub words_of_mark : Mark → List ℕ
+words_of_mark m = m.key ∷ m.ordinal.0 ∷ m.stamp.0 ∷ []
 
-unfoldable pub write_words : List Write → List ℕ
-write_words [] = []
-write_words (w ∷ ws) = w.key ∷ of_z w32 w.value ∷ write_words ws
+abbrev pub words_of_write : Write → List ℕ
+words_of_write w = w.key ∷ of_z w32 w.value ∷ []
+
+-- those of a row, one behind the other
+unfoldable pub row_words : {A : Type 0} → (A → List ℕ) → List A → List ℕ
+row_words f [] = []
+row_words f (x ∷ xs) = f x ++ row_words f xs
+
+abbrev pub mark_words : List Mark → List ℕ
+mark_words l = row_words words_of_mark l
+
+abbrev pub write_words : List Write → List ℕ
+write_words l = row_words words_of_write l
 
 abbrev pub head_words : Transaction → List ℕ
 head_words t = t.name.0 ∷ bool_byte t.live ∷ t.bounds.k1 ∷ t.bounds.k2 ∷ t.bounds.k3 ∷ t.recorded ∷ t.written ∷ []

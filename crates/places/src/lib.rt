@@ -1,9 +1,11 @@
 // The places of the desk in the master's memory: where the open transaction of a name stands, and the first that is free.
 #![tactic(auto)]
 
-ghost use Rattle.std.specs.Prelude.{◌≡◌, ◌&&◌, not, eqb};
+ghost use Rattle.std.specs.Prelude.{◌≡◌, ℕ, Bool};
 ghost use Rattle.model.specs.State.{place_of, free_place};
+ghost use Rattle.memory.specs.Tests.{Says};
 ghost use Rattle.memory.specs.Memory.{places_of};
+ghost use Rattle.places.specs.First.{first};
 
 use memory::{LIVE, WORDS, base_of};
 use units::{Stamp, limits};
@@ -12,44 +14,26 @@ use units::{Stamp, limits};
 pub fn place_of(memory: &[u32; WORDS], name: Stamp) -> usize
     ensures { result ≡ place_of (places_of memory.now) name.0 }
 {
-    let n = name.0;
-    let mut i = 0;
-    while i < limits::DESK {
-        let b = base_of(i);
-        if goes_by(memory[b], memory[b + LIVE], n) {
-            return i;
-        }
-        i += 1;
-    }
-    i
+    first_place(memory, |n, live| live && n == name.0)
 }
 
 // The first free place, or how many places there are.
 pub fn free_place(memory: &[u32; WORDS]) -> usize
     ensures { result ≡ free_place (places_of memory.now) }
 {
-    let mut i = 0;
-    while i < limits::DESK {
+    first_place(memory, |_, live| !live)
+}
+
+// The first place of which a test of the transaction's name, and of whether it is open, holds; or how many places there are.
+fn first_place<F: Fn(u32, bool) -> bool>(memory: &[u32; WORDS], test: F) -> usize
+    requires { F.IsAlwaysCallable test }
+    ensures { (p : ℕ → Bool → Bool) → Says (λ n live r. F.post test n live r) p → result ≡ first p (places_of memory.now) }
+{
+    for i in 0..limits::DESK {
         let b = base_of(i);
-        if is_free(memory[b + LIVE]) {
+        if test(memory[b], memory[b + LIVE] != 0) {
             return i;
         }
-        i += 1;
     }
-    i
-}
-
-fn goes_by(name: u32, live: u32, n: u32) -> bool
-    ensures { result ≡ (not (eqb live 0) && eqb name n) }
-{
-    if live == 0 {
-        return false;
-    }
-    name == n
-}
-
-fn is_free(live: u32) -> bool
-    ensures { result ≡ eqb live 0 }
-{
-    live == 0
+    limits::DESK
 }

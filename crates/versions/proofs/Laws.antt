@@ -2,9 +2,11 @@
 use Prim.Native.Nat.{ℕ, zero, suc, ◌+◌, ◌-◌, ◌≤◌, ◌<◌}
 use native.Mathlib.Omega.{arith}
 use native.Mathlib.Numerals.{add-one, unary_clauses}
-use mathlib.Core.Path.{◌≡◌}
-use mathlib.Core.List.{List, ◌∷◌}
-use borrow.Author.Tests.{eq-eqb, ne_eqb, lt-ltb, le-ltb}
+use mathlib.Core.Path.{◌≡◌, refl, ap}
+use mathlib.Core.Bool.{Bool, true, false, cond, ◌&&◌}
+use mathlib.Core.List.{List, [], ◌∷◌}
+use borrow.Author.Tests.{lt-ltb, le-ltb}
+use lib.Dec.{eqb}
 use lib.ListN.{length, get_or, drop, drop_of_length-le}
 use lib.Seq.{drop-cons}
 use mir.Syntax.{w32}
@@ -14,13 +16,13 @@ use Rattle.units.specs.declared.Version.{Version}
 use Rattle.lists.proofs.Count.{count_le}
 use Rattle.transaction.specs.declared.Write.{Write}
 use Rattle.transaction.specs.Transaction.{no_write}
-use Rattle.units.specs.declared.Found.{Found}
-use Rattle.units.specs.declared.Found.TheVariants.{At, Absent}
-use Rattle.model.specs.Log.{version_of, logged, newest, versions, of_key}
+use Rattle.model.specs.Log.{Entry, version_of, logged, newest, versions, of_key}
 use Rattle.memory.specs.Memory.{entry_at, entries, length_of, log_of}
+use Rattle.std.specs.Option.{unwrap_or}
+use Rattle.std.specs.Prelude.{Option, Some, None}
+use Rattle.versions.specs.Last.{last_of}
 use Rattle.words.specs.Installed.{laid, appended, installed}
 use Rattle.words.proofs.Installing.{length-log}
-use Rattle.memory.specs.Layout.{keys_from, ordinals_from}
 
 module _ (ws : List ℕ) where
   pub log_back : (i : ℕ) → 0 < i → entries ws i ≡ entry_at ws (i - 1) ∷ entries ws (i - 1)
@@ -36,35 +38,35 @@ module _ (ws : List ℕ) where
   unfolding versions
   versions_le i x = omega (arith, count_le (of_key x) (entries ws i), length-log ws i)
 
-  module _ (x i : ℕ) (w : Version) (a : newest (entries ws i) x ≡ w) where
-    pub newest_over : i ≤ 0 → start_version ≡ w
-    unfolding newest entries
-    newest_over h = let z : i ≡ 0 = omega arith in rw z at a
+-- ---- the walk from the newest end, i versions not yet looked at
+module _ (p : ℕ → ℕ → Bool) (ws : List ℕ) (i : ℕ) (w : Option Version) (a : last_of p (entries ws i) ≡ w) where
+  pub last_over : i ≤ 0 → None ≡ w
+  unfolding last_of entries
+  last_over h = let z : i ≡ 0 = omega arith in rw z at a
 
-    pub newest_hit : 0 < i → get_or ws (keys_from + (i - 1)) 0 ≡ x → version_of (entry_at ws (i - 1)) ≡ w
-    unfolding newest
-    newest_hit h e = rw (log_back i h, eq-eqb _ _ e) at a
+  pub last_hit : 0 < i → p (entry_at ws (i - 1)).key (entry_at ws (i - 1)).ordinal ≡ true → Some (version_of (entry_at ws (i - 1))) ≡ w
+  unfolding last_of
+  last_hit h e = rw (log_back ws i h, e) at a
 
-    pub newest_miss : 0 < i → (get_or ws (keys_from + (i - 1)) 0 ≡ x → ⊥) → newest (entries ws (i - 1)) x ≡ w
-    unfolding newest
-    newest_miss h e = rw (log_back i h, ne_eqb _ _ e) at a
+  pub last_miss : 0 < i → p (entry_at ws (i - 1)).key (entry_at ws (i - 1)).ordinal ≡ false → last_of p (entries ws (i - 1)) ≡ w
+  unfolding last_of
+  last_miss h e = rw (log_back ws i h, e) at a
 
-module _ (ws : List ℕ) (x j i : ℕ) (w : Found) (a : logged (entries ws i) x j ≡ w) where
-  pub logged_over : i ≤ 0 → Absent ≡ w
-  unfolding logged entries
-  logged_over h = let z : i ≡ 0 = omega arith in rw z at a
+-- the look-ups are walks
+pub last-newest : (log : List Entry) (x : ℕ) → unwrap_or (last_of (λ (k o : ℕ). eqb k x) log) start_version ≡ newest log x
+unfolding last_of newest
+last-newest [] x = refl
+last-newest (e ∷ es) x = go (eqb e.key x) (last-newest es x)
+  where
+    go : (b : Bool) → unwrap_or (last_of (λ (k o : ℕ). eqb k x) es) start_version ≡ newest es x
+        → unwrap_or (cond b (Some (version_of e)) (last_of (λ (k o : ℕ). eqb k x) es)) start_version ≡ cond b (version_of e) (newest es x)
+    go true h = refl
+    go false h = h
 
-  pub logged_hit : 0 < i → get_or ws (keys_from + (i - 1)) 0 ≡ x → get_or ws (ordinals_from + (i - 1)) 0 ≡ j → At (version_of (entry_at ws (i - 1))) ≡ w
-  unfolding logged
-  logged_hit h e f = rw (log_back ws i h, eq-eqb _ _ e, eq-eqb _ _ f) at a
-
-  pub logged-other-ordinal : 0 < i → get_or ws (keys_from + (i - 1)) 0 ≡ x → (get_or ws (ordinals_from + (i - 1)) 0 ≡ j → ⊥) → logged (entries ws (i - 1)) x j ≡ w
-  unfolding logged
-  logged-other-ordinal h e f = rw (log_back ws i h, eq-eqb _ _ e, ne_eqb _ _ f) at a
-
-  pub logged-other-key : 0 < i → (get_or ws (keys_from + (i - 1)) 0 ≡ x → ⊥) → logged (entries ws (i - 1)) x j ≡ w
-  unfolding logged
-  logged-other-key h e = rw (log_back ws i h, ne_eqb _ _ e) at a
+pub last-logged : (log : List Entry) (x j : ℕ) → last_of (λ (k o : ℕ). eqb k x && eqb o j) log ≡ logged log x j
+unfolding last_of logged
+last-logged [] x j = refl
+last-logged (e ∷ es) x j = ap (cond (eqb e.key x && eqb e.ordinal j) (Some (version_of e))) (last-logged es x j)
 
 -- ---- the loop of install
 pub install-step : (ws us : List ℕ) (stamp i : ℕ) (l : List Write) → i < length l → us ≡ appended ws stamp (get_or l i no_write) → installed us stamp (drop (i + 1) l) ≡ installed ws stamp (drop i l)

@@ -15,23 +15,19 @@ use mir.Syntax.{w32}
 use mir.Val.{SFits}
 use Rattle.lists.specs.Lists.{Every, none, also}
 use Rattle.units.specs.declared.Version.{Version}
-use Rattle.units.specs.declared.rule.Certified.{Certified}
-use Rattle.units.specs.declared.rule.Certified.TheVariants.{Whole, Broken}
+use Rattle.std.specs.Prelude.{Option, Some, None, Result, Ok, Err}
+use Rattle.units.specs.declared.rule.Rule.{Rule}
 use Rattle.transaction.specs.declared.Mark.{Mark}
 use Rattle.transaction.specs.declared.Transaction.{Transaction}
-use Rattle.transaction.specs.declared.Pending.{Pending}
-use Rattle.transaction.specs.declared.Pending.TheVariants.{Value, Nothing}
 use Rattle.transaction.specs.Transaction.{fresh, ended, recorded, tuned, written, wrote_at, reads_of, pending_of, writes_of, no_mark, no_write}
 use Rattle.model.specs.Log.{newest}
 use Rattle.model.specs.Log as log
 use Rattle.model.specs.Rules.{certified}
 use Rattle.model.specs.State.{State, opened, no_transaction, free_place, transaction, with_transaction}
 use Rattle.model.specs.Step.{Step, step, checks_of, final_of, order, marked, ends}
-use Rattle.model.specs.Call.{Call, Start, Read, Note, Write, Tune, Distance, Abort, Commit, Message, Newest, Reply, refused, started, version, own, done, apart_by, committed, aborted, made, made_by}
+use Rattle.model.specs.Call.{Call, Start, Read, Note, Write, Tune, Distance, Abort, Commit, Message, Newest, Reply, started, version, done, committed, aborted}
 use Rattle.model.specs.Session.{reached, replies}
 use Rattle.units.specs.Bounds.{triple}
-use Rattle.units.specs.declared.Found.{Found}
-use Rattle.units.specs.declared.Found.TheVariants.{At, Absent}
 use Rattle.memory.specs.Memory.{tab, base_of, mark_at, write_at, entries, loaded, stored, places_of, length_of, log_of, state_of, Good}
 use Rattle.memory.proofs.Laws.{tab-same, tab-set, load_frame, log_frame, load_same, load-other, length-stored, places_at, places_stored, log-stored, state-stored, state-clock, good_loaded, good_fresh, good_written}
 use Rattle.words.specs.Installed.{installed}
@@ -92,13 +88,13 @@ module _ (ws : List ℕ) (whole : length ws ≡ word_count) (n : ℕ) where
       goes : at ws n < 32 → (v : Version) → state_of (stored ws (at ws n) (recorded t (marked k v))) ≡ with_transaction (state_of ws) n (recorded (transaction (state_of ws) n) (marked k v))
       goes h v = state-stored ws whole (at ws n) h (recorded t (marked k v)) (good_recorded t (marked k v) (good_loaded ws (at ws n))) ∙ rw (places_at ws (at ws n) h)
 
-      go : (b : Bool) → leb 32 (at ws n) ≡ b → (d : Bool) → ltb 63 k ≡ d → (p : Pending) → pending_of (transaction (state_of ws) n) k ≡ p → (q : Bool) → leb 16 (transaction (state_of ws) n).recorded ≡ q
+      go : (b : Bool) → leb 32 (at ws n) ≡ b → (d : Bool) → ltb 63 k ≡ d → (p : Option ℤ) → pending_of (transaction (state_of ws) n) k ≡ p → (q : Bool) → leb 16 (transaction (state_of ws) n).recorded ≡ q
           → state_of (after ws (Read n k)) ≡ (step (state_of ws) (Read n k)).state
       go true e1 d e2 p e3 q e4 = rw e1
       go false e1 true e2 p e3 q e4 = rw (e1, e2)
-      go false e1 false e2 (Value v) e3 q e4 = rw (e1, e2, e3)
-      go false e1 false e2 Nothing e3 true e4 = rw (e1, e2, e3, e4)
-      go false e1 false e2 Nothing e3 false e4 = rw (e1, e2, e3, e4) (goes (leb-false 32 _ e1) (newest (log_of ws) k))
+      go false e1 false e2 (Some v) e3 q e4 = rw (e1, e2, e3)
+      go false e1 false e2 None e3 true e4 = rw (e1, e2, e3, e4)
+      go false e1 false e2 None e3 false e4 = rw (e1, e2, e3, e4) (goes (leb-false 32 _ e1) (newest (log_of ws) k))
 
   -- a granted commit
   module _ (live : at ws n < 32) (room : length_of ws + length (writes_of t) ≤ 4096) (s : ℕ) where
@@ -126,14 +122,14 @@ module _ (ws : List ℕ) (whole : length ws ≡ word_count) (n : ℕ) where
   state-commit =
       go (leb 32 (at ws n)) refl (certified (log_of ws) (transaction (state_of ws) n)) refl (ltb 4096 (length (log_of ws) + length (writes_of (transaction (state_of ws) n)))) refl (eqb (get_or ws clock_at 0) 4294967295) refl
     where
-      go : (b : Bool) → leb 32 (at ws n) ≡ b → (c : Certified) → certified (log_of ws) (transaction (state_of ws) n) ≡ c → (d : Bool) → ltb 4096 (length (log_of ws) + length (writes_of (transaction (state_of ws) n))) ≡ d
+      go : (b : Bool) → leb 32 (at ws n) ≡ b → (c : Result (Unit {0}) Rule) → certified (log_of ws) (transaction (state_of ws) n) ≡ c → (d : Bool) → ltb 4096 (length (log_of ws) + length (writes_of (transaction (state_of ws) n))) ≡ d
           → (q : Bool) → eqb (get_or ws clock_at 0) 4294967295 ≡ q
           → state_of (after ws (Commit n)) ≡ (step (state_of ws) (Commit n)).state
       go true e1 c e2 d e3 q e4 = rw e1
-      go false e1 (Broken r) e2 d e3 q e4 = rw (e1, e2) (state-closed ws whole (at ws n) (leb-false 32 _ e1) ∙ rw (places_at ws (at ws n) (leb-false 32 _ e1)))
-      go false e1 Whole e2 true e3 q e4 = rw (e1, e2, e3)
-      go false e1 Whole e2 false e3 true e4 = rw (e1, e2, e3, e4)
-      go false e1 Whole e2 false e3 false e4 =
+      go false e1 (Err r) e2 d e3 q e4 = rw (e1, e2) (state-closed ws whole (at ws n) (leb-false 32 _ e1) ∙ rw (places_at ws (at ws n) (leb-false 32 _ e1)))
+      go false e1 (Ok u) e2 true e3 q e4 = rw (e1, e2, e3)
+      go false e1 (Ok u) e2 false e3 true e4 = rw (e1, e2, e3, e4)
+      go false e1 (Ok u) e2 false e3 false e4 =
           let live : at ws n < 32 = leb-false 32 _ e1 in
           let there : transaction (state_of ws) n ≡ t = places_at ws (at ws n) live in
           let over : length (log_of ws) + length (writes_of (transaction (state_of ws) n)) ≤ 4096 = ltb-false 4096 _ e3 in
@@ -208,15 +204,15 @@ module _ (ws : List ℕ) (whole : length ws ≡ word_count) where
   state-note n k o =
       go (leb 32 (at ws n)) refl (ltb 63 k) refl (pending_of (transaction (state_of ws) n) k) refl (log.look_up (log_of ws) k o) refl (leb 16 (transaction (state_of ws) n).recorded) refl
     where
-      go : (b : Bool) → leb 32 (at ws n) ≡ b → (d : Bool) → ltb 63 k ≡ d → (p : Pending) → pending_of (transaction (state_of ws) n) k ≡ p → (f : Found) → log.look_up (log_of ws) k o ≡ f
+      go : (b : Bool) → leb 32 (at ws n) ≡ b → (d : Bool) → ltb 63 k ≡ d → (p : Option ℤ) → pending_of (transaction (state_of ws) n) k ≡ p → (f : Option Version) → log.look_up (log_of ws) k o ≡ f
           → (q : Bool) → leb 16 (transaction (state_of ws) n).recorded ≡ q
           → state_of (after ws (Note n k o)) ≡ (step (state_of ws) (Note n k o)).state
       go true e1 d e2 p e3 f e4 q e5 = rw e1
       go false e1 true e2 p e3 f e4 q e5 = rw (e1, e2)
-      go false e1 false e2 (Value v) e3 f e4 q e5 = rw (e1, e2, e3)
-      go false e1 false e2 Nothing e3 Absent e4 q e5 = rw (e1, e2, e3, e4)
-      go false e1 false e2 Nothing e3 (At v) e4 true e5 = rw (e1, e2, e3, e4, e5)
-      go false e1 false e2 Nothing e3 (At v) e4 false e5 =
+      go false e1 false e2 (Some v) e3 f e4 q e5 = rw (e1, e2, e3)
+      go false e1 false e2 None e3 None e4 q e5 = rw (e1, e2, e3, e4)
+      go false e1 false e2 None e3 (Some v) e4 true e5 = rw (e1, e2, e3, e4, e5)
+      go false e1 false e2 None e3 (Some v) e4 false e5 =
           rw (e1, e2, e3, e4, e5) (becomes n (λ (t : Transaction). recorded t (marked k v)) (λ t g. good_recorded t (marked k v) g) (leb-false 32 _ e1))
 
   state-writes : (n k : ℕ) (v : ℤ) → SFits w32 v → state_of (after ws (Write n k v)) ≡ (step (state_of ws) (Write n k v)).state
@@ -283,52 +279,21 @@ module _ (ws : List ℕ) (whole : length ws ≡ word_count) where
 -- what holds of the words that a reply of a kind leaves, and of those that any other leaves, holds of the words after
 module _ (P : List ℕ → Type 0) {other : List ℕ} where
   on-started : {f : ℕ → List ℕ} → ((m : ℕ) → P (f m)) → P other → (r : Reply) → P (on_started f other r)
-  on-started h o (refused n) = o
   on-started h o (started m) = h m
-  on-started h o (version v) = o
-  on-started h o (own z) = o
-  on-started h o done = o
-  on-started h o (apart_by d) = o
-  on-started h o (committed t) = o
-  on-started h o (aborted q) = o
-  on-started h o (made es) = o
-  on-started h o (made_by t) = o
+  on-started h o _ = o
 
   on-version : {f : Version → List ℕ} → ((v : Version) → P (f v)) → P other → (r : Reply) → P (on_version f other r)
-  on-version h o (refused n) = o
-  on-version h o (started m) = o
   on-version h o (version v) = h v
-  on-version h o (own z) = o
-  on-version h o done = o
-  on-version h o (apart_by d) = o
-  on-version h o (committed t) = o
-  on-version h o (aborted q) = o
-  on-version h o (made es) = o
-  on-version h o (made_by t) = o
+  on-version h o _ = o
 
   on-done : {f : List ℕ} → P f → P other → (r : Reply) → P (on_done f other r)
-  on-done h o (refused n) = o
-  on-done h o (started m) = o
-  on-done h o (version v) = o
-  on-done h o (own z) = o
   on-done h o done = h
-  on-done h o (apart_by d) = o
-  on-done h o (committed t) = o
-  on-done h o (aborted q) = o
-  on-done h o (made es) = o
-  on-done h o (made_by t) = o
+  on-done h o _ = o
 
   on-commit : {f : ℕ → List ℕ} {g : List ℕ} → ((m : ℕ) → P (f m)) → P g → P other → (r : Reply) → P (on_commit f g other r)
-  on-commit h k o (refused n) = o
-  on-commit h k o (started m) = o
-  on-commit h k o (version v) = o
-  on-commit h k o (own z) = o
-  on-commit h k o done = o
-  on-commit h k o (apart_by d) = o
   on-commit h k o (committed t) = h t
   on-commit h k o (aborted q) = k
-  on-commit h k o (made es) = o
-  on-commit h k o (made_by t) = o
+  on-commit h k o _ = o
 
 length-change : (ws : List ℕ) (c : Call) (r : Reply) → length (change ws c r) ≡ length ws
 unfolding change

@@ -6,7 +6,7 @@ use Rattle.units.specs.Bounds.{triple}
 use Rattle.units.specs.declared.Version.{Version}
 use Rattle.transaction.specs.Transaction.{recorded, writes_of, fresh, ended, written, tuned}
 use Rattle.model.specs.State.{place_of, free_place}
-use Rattle.model.specs.Call.{Call, Start, Read, Note, Write, Tune, Distance, Abort, Commit, Message, Newest, Reply, refused, started, version, own, done, apart_by, committed, aborted, made, made_by}
+use Rattle.model.specs.Call.{Call, Start, Read, Note, Write, Tune, Distance, Abort, Commit, Message, Newest, Reply, started, version, done, committed, aborted}
 use Rattle.model.specs.Step.{step, marked}
 use Rattle.memory.specs.Memory.{base_of, loaded, stored, places_of, state_of}
 use Rattle.words.specs.Installed.{installed}
@@ -22,52 +22,21 @@ closed ws p = set ws (base_of p + live_at) 0
 
 -- what a reply of a kind does, and what any other does
 abbrev pub on_started : {A : Type 0} → (ℕ → A) → A → Reply → A
-on_started f other (refused n) = other
 on_started f other (started m) = f m
-on_started f other (version v) = other
-on_started f other (own z) = other
-on_started f other done = other
-on_started f other (apart_by d) = other
-on_started f other (committed s) = other
-on_started f other (aborted q) = other
-on_started f other (made es) = other
-on_started f other (made_by s) = other
+on_started f other _ = other
 
 abbrev pub on_version : {A : Type 0} → (Version → A) → A → Reply → A
-on_version f other (refused n) = other
-on_version f other (started m) = other
 on_version f other (version v) = f v
-on_version f other (own z) = other
-on_version f other done = other
-on_version f other (apart_by d) = other
-on_version f other (committed s) = other
-on_version f other (aborted q) = other
-on_version f other (made es) = other
-on_version f other (made_by s) = other
+on_version f other _ = other
 
 abbrev pub on_done : {A : Type 0} → A → A → Reply → A
-on_done f other (refused n) = other
-on_done f other (started m) = other
-on_done f other (version v) = other
-on_done f other (own z) = other
 on_done f other done = f
-on_done f other (apart_by d) = other
-on_done f other (committed s) = other
-on_done f other (aborted q) = other
-on_done f other (made es) = other
-on_done f other (made_by s) = other
+on_done f other _ = other
 
 abbrev pub on_commit : {A : Type 0} → (ℕ → A) → A → A → Reply → A
-on_commit f g other (refused n) = other
-on_commit f g other (started m) = other
-on_commit f g other (version v) = other
-on_commit f g other (own z) = other
-on_commit f g other done = other
-on_commit f g other (apart_by d) = other
 on_commit f g other (committed s) = f s
 on_commit f g other (aborted q) = g
-on_commit f g other (made es) = other
-on_commit f g other (made_by s) = other
+on_commit f g other _ = other
 
 -- the words after a call whose reply is r
 unfoldable pub change : List ℕ → Call → Reply → List ℕ

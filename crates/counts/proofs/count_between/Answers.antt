@@ -1,10 +1,9 @@
--- `count_between` meets its contract: of stamps in order by the count of what lies between them, of others nothing does.
-use mathlib.Core.Path.{◌∙◌}
-use Rattle.counts.proofs.Laws.{strictly, nothing-between}
+use Rattle.std.proofs.Common.{ℕ, ◌&&◌, eqb, ltb, rules}
+use Rattle.model.specs.Log.{between}
+use Rattle.counts.specs.Where.{counted}
 use Rattle.counts.proofs.count_between.Goals as goal
 
-pub returns-then-after-before : goal.returns-then-after-before
-returns-then-after-before c = c.count_within.ensures ∙ strictly _ _ _ _ c.if-after-before.true
-
 pub returns : goal.returns
-returns c = nothing-between _ _ _ _ c.if-after-before.false
+unfolding between counted
+returns c =
+    c.count_where.ensures (λ (k s : ℕ). eqb k c.args.key && (ltb c.args.after.0 s && ltb s c.args.before.0)) (λ k s r h. search rules)

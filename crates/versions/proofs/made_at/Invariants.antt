@@ -1,13 +1,9 @@
--- `made_at` meets its contract: the batch has the commit's versions among the places passed.
-use Prim.Native.Nat.{◌-◌, ◌≤◌}
-use mathlib.Core.Path.{◌≡◌}
+-- The batch has the commit's versions among the places passed.
+use Rattle.std.proofs.Common.{◌≡◌}
 use Rattle.model.specs.Log.{made_at}
-use Rattle.memory.specs.Memory.{entries, length_of}
+use Rattle.memory.specs.Memory.{entries}
 use Rattle.versions.specs.Batch.{batch_of}
 use Rattle.versions.proofs.made_at.Given as goal
 
 abbrev pub invariant-loop-i : goal.invariant-loop-i
-invariant-loop-i l = (l.i ≤ l.end) × ((l.end ≡ length_of l.memory) × (l.batch ≡ batch_of (made_at (entries l.memory l.i) l.wanted)))
-
-abbrev pub decreases-loop-i : goal.decreases-loop-i
-decreases-loop-i l = l.end - l.i
+invariant-loop-i l = l.batch ≡ batch_of (made_at (entries l.memory l.i) l.stamp.0)
