@@ -13,9 +13,12 @@ use Rattle.units.specs.Refusal.{number_of}
 use Rattle.units.specs.Bounds as triples
 use Rattle.units.specs.Bounds.{triple, bounded, triple_reply}
 use Rattle.units.specs.declared.Bounds.{Bounds}
-use Rattle.units.specs.declared.Triple.{Triple}
-use Rattle.units.specs.declared.Triple.TheVariants.{Taken, Refused}
 use Rattle.units.specs.declared.refusal.Refusal.{Refusal}
+use Rattle.units.specs.declared.refusal.Refusal.TheVariants.{ClockSpent}
+use Rattle.units.specs.declared.Stamp.{Stamp}
+use Rattle.std.specs.Prelude.{Option, Some, None, Result, Ok, Err, SomeIff, MatchOption, MatchResult, IsSomeAnd, IsOkAnd}
+use Rattle.std.specs.Option.{ok_or}
+use Rattle.desk.specs.Desk.{start_reply, done_reply}
 use Rattle.transaction.specs.Transaction.{fresh, ended, tuned, written, wrote_at}
 use Rattle.model.specs.State.{free_place}
 use Rattle.memory.specs.Memory.{loaded, stored, places_of, state_of}
@@ -30,13 +33,14 @@ module _ (ws : List ℕ) where
   unfolding step checks_of final_of order
   start-full h = rw (le-leb _ _ h)
 
-  pub start-spent : free_place (places_of ws) < 32 → get_or ws 0 0 ≡ 4294967295 → refused 5 ≡ (step (state_of ws) Start).reply
+  -- the clock's next stamp, or 5 where there is none
+  pub start-next : {P : ℕ → Stamp → Type 0} → ((x : ℕ) (s : Stamp) → P x s → s.0 ≡ x) → (next : Option ℕ) (name : Option Stamp) → free_place (places_of ws) < 32 → get_or ws 0 0 < 4294967296
+      → SomeIff next (get_or ws 0 0 + 1 < 4294967296) (get_or ws 0 0 + 1) → MatchOption next (name ≡ None) (λ x. IsSomeAnd name (P x))
+      → start_reply (ok_or name ClockSpent) ≡ (step (state_of ws) Start).reply
   unfolding step checks_of final_of order
-  start-spent h e = rw (lt-leb 32 _ h, eq-eqb _ _ e)
-
-  pub start_goes : free_place (places_of ws) < 32 → (get_or ws 0 0 ≡ 4294967295 → ⊥) → started (get_or ws 0 0 + 1) ≡ (step (state_of ws) Start).reply
-  unfolding step checks_of final_of order
-  start_goes h e = rw (lt-leb 32 _ h, ne_eqb _ _ e, add-one)
+  start-next q None name h f k e = let spent : get_or ws 0 0 ≡ 4294967295 = omega arith in rw (e, lt-leb 32 _ h, eq-eqb _ _ spent)
+  start-next q (Some x) None h f k e = absurd e
+  start-next q (Some x) (Some s) h f k e = let more : (get_or ws 0 0 ≡ 4294967295 → ⊥) = (λ z. absurd (omega arith)) in rw (q x s e, k.1, lt-leb 32 _ h, ne_eqb _ _ more, add-one)
 
   module _ (n k : ℕ) (v : ℤ) where
     pub write-nobody : 32 ≤ at ws n → refused 1 ≡ (step (state_of ws) (Write n k v)).reply
@@ -62,22 +66,20 @@ module _ (ws : List ℕ) where
     tune-nobody h = rw (le-leb _ _ h)
 
     -- what the constructor of a triple answers is what tune answers, of an open transaction
-    module _ (live : at ws n < 32) (r : Triple) (e : triple_reply r ≡ bounded k1 k2 k3) where
-      pub tune-refused : (f : Refusal) → r ≡ Refused f → refused (number_of f) ≡ (step (state_of ws) (Tune n k1 k2 k3)).reply
-      unfolding step checks_of final_of order bounded
-      tune-refused f q = go (eqb k1 0) refl (rw q at e)
-        where
-          go : (b : Bool) → eqb k1 0 ≡ b → triples.refused (number_of f) ≡ cond b (triples.refused 9) (triples.taken (triple k1 k2 k3)) → refused (number_of f) ≡ (step (state_of ws) (Tune n k1 k2 k3)).reply
-          go true z h = let y : number_of f ≡ 9 = cc in rw (lt-leb 32 _ live, z, y)
-          go false z h = let y : ◌≡◌ {A = ℕ} 0 1 = cc in absurd (omega arith)
-
-      pub tune-taken : (b : Bounds) → r ≡ Taken b → done ≡ (step (state_of ws) (Tune n k1 k2 k3)).reply
-      unfolding step checks_of final_of order bounded
-      tune-taken b q = go (eqb k1 0) refl (rw q at e)
-        where
-          go : (t : Bool) → eqb k1 0 ≡ t → triples.taken b ≡ cond t (triples.refused 9) (triples.taken (triple k1 k2 k3)) → done ≡ (step (state_of ws) (Tune n k1 k2 k3)).reply
-          go true z h = let y : ◌≡◌ {A = ℕ} 0 1 = cc in absurd (omega arith)
-          go false z h = rw (lt-leb 32 _ live, z)
+    pub tune-bounded : (P : Bounds → Unit {0} → Type 0) → at ws n < 32 → (r : Result Bounds Refusal) (a : Result (Unit {0}) Refusal) → triple_reply r ≡ bounded k1 k2 k3
+        → MatchResult r (λ b. IsOkAnd a (P b)) (λ f. a ≡ Err f) → done_reply a ≡ (step (state_of ws) (Tune n k1 k2 k3)).reply
+    unfolding step checks_of final_of order bounded
+    tune-bounded P live (Ok b) (Ok u) e m = go (eqb k1 0) refl e
+      where
+        go : (t : Bool) → eqb k1 0 ≡ t → triples.taken b ≡ cond t (triples.refused 9) (triples.taken (triple k1 k2 k3)) → done ≡ (step (state_of ws) (Tune n k1 k2 k3)).reply
+        go true z h = let y : ◌≡◌ {A = ℕ} 0 1 = cc in absurd (omega arith)
+        go false z h = rw (lt-leb 32 _ live, z)
+    tune-bounded P live (Ok b) (Err f) e m = absurd m
+    tune-bounded P live (Err f) a e m = rw m (go (eqb k1 0) refl e)
+      where
+        go : (t : Bool) → eqb k1 0 ≡ t → triples.refused (number_of f) ≡ cond t (triples.refused 9) (triples.taken (triple k1 k2 k3)) → refused (number_of f) ≡ (step (state_of ws) (Tune n k1 k2 k3)).reply
+        go true z h = let y : number_of f ≡ 9 = cc in rw (lt-leb 32 _ live, z, y)
+        go false z h = let y : ◌≡◌ {A = ℕ} 0 1 = cc in absurd (omega arith)
 
   module _ (n : ℕ) where
     pub abort-nobody : 32 ≤ at ws n → refused 1 ≡ (step (state_of ws) (Abort n)).reply
@@ -126,3 +128,10 @@ module _ (ws : List ℕ) where
 pub clear_step : (ws us : List ℕ) (i : ℕ) → us ≡ stored (cleared ws i) i (ended (fresh 0)) → us ≡ cleared ws (i + 1)
 unfolding cleared
 clear_step ws us i e = e ∙ rw (add-one i)
+
+-- what the check finds the calls' answers by
+pub ruleset decided = (start-full, write-nobody, write_no_key, write-full, write_goes, tune-nobody, abort-nobody, abort_goes)
+
+pub ruleset done_so = (refused-stays, start-after, write-after, tune-after, abort-after)
+
+

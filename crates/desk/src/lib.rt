@@ -13,32 +13,12 @@ ghost use Rattle.desk.specs.Desk.{start_reply, done_reply};
 use memory::{CLOCK, LENGTH, LIVE, WORDS, base_of, load, store};
 use places::{free_place, place_of};
 use transaction::Transaction;
-use units::{Bounds, Refusal, Stamp, Triple, limits};
+use units::{Bounds, Refusal, Stamp, limits};
 
+// What a call would answer, and the place that it looked for: the first free one, or that of the open transaction of a name.
 #[derive(Clone, Copy)]
-pub enum StartAnswer {
-    Started(Stamp),
-    Refused(Refusal),
-}
-
-// What write, tune and abort answer.
-#[derive(Clone, Copy)]
-pub enum DoneAnswer {
-    Done,
-    Refused(Refusal),
-}
-
-// What start would answer, and the first free place.
-#[derive(Clone, Copy)]
-pub struct Starting {
-    pub answer: StartAnswer,
-    pub place: usize,
-}
-
-// What a call on an open transaction would answer, and that transaction's place.
-#[derive(Clone, Copy)]
-pub struct Doing {
-    pub answer: DoneAnswer,
+pub struct Decided<T, E> {
+    pub answer: Result<T, E>,
     pub place: usize,
 }
 
@@ -52,38 +32,27 @@ pub fn open(memory: &mut [u32; WORDS], clock: Stamp)
 }
 
 // Every place holds a transaction that has ended.
+#[tactic(auto, using(crate::proofs::Laws::clear_step), unfolding(words::specs::After::cleared))]
 fn clear(memory: &mut [u32; WORDS])
     ensures { memory.new ≡ cleared memory.old 32 }
 {
-    let mut i = 0;
-    while i < limits::DESK {
+    for i in 0..limits::DESK {
         store(memory, i, Transaction::fresh(Stamp(0)).end());
-        i += 1;
     }
 }
 
-pub fn decide_start(memory: &[u32; WORDS]) -> Starting
+#[tactic(auto, using(crate::proofs::Laws::decided))]
+pub fn decide_start(memory: &[u32; WORDS]) -> Decided<Stamp, Refusal>
     ensures reply { start_reply result.answer ≡ (step (state_of memory.now) Start).reply }
     ensures place { result.place ≡ free_place (places_of memory.now) }
 {
     let place = free_place(memory);
     if limits::DESK <= place {
-        return Starting {
-            answer: StartAnswer::Refused(Refusal::DeskFull),
-            place,
-        };
+        return refuse(place, Refusal::DeskFull);
     }
-    let clock = memory[CLOCK];
-    if clock == limits::LAST_STAMP {
-        return Starting {
-            answer: StartAnswer::Refused(Refusal::ClockSpent),
-            place,
-        };
-    }
-    Starting {
-        answer: StartAnswer::Started(Stamp(next(clock))),
-        place,
-    }
+    let next = memory[CLOCK].checked_add(1);
+    let answer = next.map(Stamp).ok_or(Refusal::ClockSpent);
+    Decided { answer, place }
 }
 
 pub fn change_start(memory: &mut [u32; WORDS], place: usize, name: Stamp)
@@ -93,22 +62,19 @@ pub fn change_start(memory: &mut [u32; WORDS], place: usize, name: Stamp)
     memory[CLOCK] = name.0;
 }
 
-pub fn start(memory: &mut [u32; WORDS]) -> StartAnswer
+#[tactic(auto, using(crate::proofs::Laws::done_so))]
+pub fn start(memory: &mut [u32; WORDS]) -> Result<Stamp, Refusal>
     ensures reply { start_reply result ≡ (step (state_of memory.old) Start).reply }
     ensures memory { memory.new ≡ after memory.old Start }
 {
     let d = decide_start(memory);
-    let answer = d.answer;
-    match answer {
-        StartAnswer::Started(name) => {
-            change_start(memory, d.place, name);
-            StartAnswer::Started(name)
-        }
-        StartAnswer::Refused(refusal) => StartAnswer::Refused(refusal),
-    }
+    let name = d.answer?;
+    change_start(memory, d.place, name);
+    Ok(name)
 }
 
-pub fn decide_write(memory: &[u32; WORDS], name: Stamp, key: u32) -> Doing
+#[tactic(auto, using(crate::proofs::Laws::decided))]
+pub fn decide_write(memory: &[u32; WORDS], name: Stamp, key: u32) -> Decided<(), Refusal>
     ensures reply { (v : ℤ) → done_reply result.answer ≡ (step (state_of memory.now) (Write name.0 key v)).reply }
     ensures place { result.place ≡ place_of (places_of memory.now) name.0 }
 {
@@ -122,10 +88,8 @@ pub fn decide_write(memory: &[u32; WORDS], name: Stamp, key: u32) -> Doing
     if limits::WRITES <= load(memory, place).wrote_at(key) {
         return refuse(place, Refusal::TransactionFull);
     }
-    Doing {
-        answer: DoneAnswer::Done,
-        place,
-    }
+    let answer = Ok(());
+    Decided { answer, place }
 }
 
 pub fn change_write(memory: &mut [u32; WORDS], place: usize, key: u32, value: i32)
@@ -135,22 +99,19 @@ pub fn change_write(memory: &mut [u32; WORDS], place: usize, key: u32, value: i3
     store(memory, place, t.write(key, value));
 }
 
-pub fn write(memory: &mut [u32; WORDS], name: Stamp, key: u32, value: i32) -> DoneAnswer
+#[tactic(auto, using(crate::proofs::Laws::done_so))]
+pub fn write(memory: &mut [u32; WORDS], name: Stamp, key: u32, value: i32) -> Result<(), Refusal>
     ensures reply { done_reply result ≡ (step (state_of memory.old) (Write name.0 key value)).reply }
     ensures memory { memory.new ≡ after memory.old (Write name.0 key value) }
 {
     let d = decide_write(memory, name, key);
-    let answer = d.answer;
-    match answer {
-        DoneAnswer::Done => {
-            change_write(memory, d.place, key, value);
-            DoneAnswer::Done
-        }
-        DoneAnswer::Refused(refusal) => DoneAnswer::Refused(refusal),
-    }
+    d.answer?;
+    change_write(memory, d.place, key, value);
+    Ok(())
 }
 
-pub fn decide_tune(memory: &[u32; WORDS], name: Stamp, k1: u16, k2: u16, k3: u16) -> Doing
+#[tactic(auto, using(crate::proofs::Laws::decided))]
+pub fn decide_tune(memory: &[u32; WORDS], name: Stamp, k1: u16, k2: u16, k3: u16) -> Decided<(), Refusal>
     ensures reply { done_reply result.answer ≡ (step (state_of memory.now) (Tune name.0 k1 k2 k3)).reply }
     ensures place { result.place ≡ place_of (places_of memory.now) name.0 }
 {
@@ -158,13 +119,8 @@ pub fn decide_tune(memory: &[u32; WORDS], name: Stamp, k1: u16, k2: u16, k3: u16
     if limits::DESK <= place {
         return refuse(place, Refusal::NoTransaction);
     }
-    match Bounds::new(k1, k2, k3) {
-        Triple::Refused(refusal) => refuse(place, refusal),
-        Triple::Taken(_) => Doing {
-            answer: DoneAnswer::Done,
-            place,
-        },
-    }
+    let answer = Bounds::new(k1, k2, k3).map(|_| ());
+    Decided { answer, place }
 }
 
 pub fn change_tune(memory: &mut [u32; WORDS], place: usize, bounds: Bounds)
@@ -174,22 +130,19 @@ pub fn change_tune(memory: &mut [u32; WORDS], place: usize, bounds: Bounds)
     store(memory, place, t.tune(bounds));
 }
 
-pub fn tune(memory: &mut [u32; WORDS], name: Stamp, k1: u16, k2: u16, k3: u16) -> DoneAnswer
+#[tactic(auto, using(crate::proofs::Laws::done_so))]
+pub fn tune(memory: &mut [u32; WORDS], name: Stamp, k1: u16, k2: u16, k3: u16) -> Result<(), Refusal>
     ensures reply { done_reply result ≡ (step (state_of memory.old) (Tune name.0 k1 k2 k3)).reply }
     ensures memory { memory.new ≡ after memory.old (Tune name.0 k1 k2 k3) }
 {
     let d = decide_tune(memory, name, k1, k2, k3);
-    let answer = d.answer;
-    match answer {
-        DoneAnswer::Done => {
-            change_tune(memory, d.place, Bounds { k1, k2, k3 });
-            DoneAnswer::Done
-        }
-        DoneAnswer::Refused(refusal) => DoneAnswer::Refused(refusal),
-    }
+    d.answer?;
+    change_tune(memory, d.place, Bounds { k1, k2, k3 });
+    Ok(())
 }
 
-pub fn decide_abort(memory: &[u32; WORDS], name: Stamp) -> Doing
+#[tactic(auto, using(crate::proofs::Laws::decided))]
+pub fn decide_abort(memory: &[u32; WORDS], name: Stamp) -> Decided<(), Refusal>
     ensures reply { done_reply result.answer ≡ (step (state_of memory.now) (Abort name.0)).reply }
     ensures place { result.place ≡ place_of (places_of memory.now) name.0 }
 {
@@ -197,10 +150,8 @@ pub fn decide_abort(memory: &[u32; WORDS], name: Stamp) -> Doing
     if limits::DESK <= place {
         return refuse(place, Refusal::NoTransaction);
     }
-    Doing {
-        answer: DoneAnswer::Done,
-        place,
-    }
+    let answer = Ok(());
+    Decided { answer, place }
 }
 
 // The transaction at a place is open no more: an abort, and what a commit leaves of it.
@@ -211,34 +162,22 @@ pub fn change_end(memory: &mut [u32; WORDS], place: usize)
     memory[b + LIVE] = 0;
 }
 
-pub fn abort(memory: &mut [u32; WORDS], name: Stamp) -> DoneAnswer
+#[tactic(auto, using(crate::proofs::Laws::done_so))]
+pub fn abort(memory: &mut [u32; WORDS], name: Stamp) -> Result<(), Refusal>
     ensures reply { done_reply result ≡ (step (state_of memory.old) (Abort name.0)).reply }
     ensures memory { memory.new ≡ after memory.old (Abort name.0) }
 {
     let d = decide_abort(memory, name);
-    let answer = d.answer;
-    match answer {
-        DoneAnswer::Done => {
-            change_end(memory, d.place);
-            DoneAnswer::Done
-        }
-        DoneAnswer::Refused(refusal) => DoneAnswer::Refused(refusal),
-    }
+    d.answer?;
+    change_end(memory, d.place);
+    Ok(())
 }
 
-fn refuse(place: usize, refusal: Refusal) -> Doing
-    ensures { (result.answer ≡ DoneAnswer.Refused refusal) × (result.place ≡ place) }
+fn refuse<T>(place: usize, refusal: Refusal) -> Decided<T, Refusal>
+    ensures { (result.answer ≡ Err refusal) × (result.place ≡ place) }
 {
-    Doing {
-        answer: DoneAnswer::Refused(refusal),
+    Decided {
+        answer: Err(refusal),
         place,
     }
-}
-
-// The clock's next stamp.
-fn next(clock: u32) -> u32
-    requires { clock ≡ 4294967295 → ⊥ }
-    ensures { result ≡ clock + 1 }
-{
-    clock + 1
 }

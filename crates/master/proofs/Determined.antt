@@ -8,61 +8,65 @@ use Rattle.units.proofs.Numbers.{refusal_of, number_back, back_inj}
 use Rattle.model.specs.Log.{Entry}
 use Rattle.model.specs.Call.{Reply}
 use Rattle.model.proofs.Replies.{Told, told}
-use Rattle.master.specs.declared.ReadAnswer.{ReadAnswer}
-use Rattle.master.specs.declared.DistanceAnswer.{DistanceAnswer}
-use Rattle.master.specs.declared.CommitAnswer.{CommitAnswer}
-use Rattle.master.specs.declared.MadeAnswer.{MadeAnswer}
-use Rattle.master.specs.declared.NewestAnswer.{NewestAnswer}
+use Rattle.std.specs.Prelude.{ℤ, Result, Ok, Err, IfOk}
+use mathlib.Core.Path.{sym, ◌∙◌}
+use Rattle.units.specs.declared.Stamp.{Stamp}
+use Rattle.units.specs.declared.Batch.{Batch}
+use Rattle.units.specs.declared.refusal.Refusal.{Refusal}
+use Rattle.versions.specs.Batch.{batch_of}
+use Rattle.master.specs.declared.Reading.{Reading}
+use Rattle.master.specs.declared.NotCommitted.{NotCommitted}
 use Rattle.master.specs.Master.{read_reply, distance_reply, commit_reply, made_reply, newest_reply}
 
-abbrev read_from : Told → ReadAnswer
-read_from t = cond (eqb t.kind 0) (ReadAnswer.Refused (refusal_of t.number)) (cond (eqb t.kind 2) (ReadAnswer.Answered t.version) (ReadAnswer.Own t.value))
+abbrev read_from : Told → Result Reading Refusal
+read_from t = cond (eqb t.kind 0) (Err (refusal_of t.number)) (cond (eqb t.kind 2) (Ok (Reading.Version t.version)) (Ok (Reading.Own t.value)))
 
-read_back : (a : ReadAnswer) → read_from (told (read_reply a)) ≡ a
-read_back (ReadAnswer.Answered v) = refl
-read_back (ReadAnswer.Own v) = refl
-read_back (ReadAnswer.Refused f) = ap ReadAnswer.Refused (number_back f)
+read_back : (a : Result Reading Refusal) → read_from (told (read_reply a)) ≡ a
+read_back (Ok (Reading.Version v)) = refl
+read_back (Ok (Reading.Own v)) = refl
+read_back (Err f) = ap Err (number_back f)
 
-pub read_inj : (a b : ReadAnswer) → read_reply a ≡ read_reply b → a ≡ b
+pub read_inj : (a b : Result Reading Refusal) → read_reply a ≡ read_reply b → a ≡ b
 read_inj = back_inj read_reply (λ (r : Reply). read_from (told r)) read_back
 
-abbrev distance_from : Told → DistanceAnswer
-distance_from t = cond (eqb t.kind 0) (DistanceAnswer.Refused (refusal_of t.number)) (DistanceAnswer.Distance t.value)
+abbrev distance_from : Told → Result ℤ Refusal
+distance_from t = cond (eqb t.kind 0) (Err (refusal_of t.number)) (Ok t.value)
 
-distance_back : (a : DistanceAnswer) → distance_from (told (distance_reply a)) ≡ a
-distance_back (DistanceAnswer.Distance d) = refl
-distance_back (DistanceAnswer.Refused f) = ap DistanceAnswer.Refused (number_back f)
+distance_back : (a : Result ℤ Refusal) → distance_from (told (distance_reply a)) ≡ a
+distance_back (Ok d) = refl
+distance_back (Err f) = ap Err (number_back f)
 
-pub distance_inj : (a b : DistanceAnswer) → distance_reply a ≡ distance_reply b → a ≡ b
+pub distance_inj : (a b : Result ℤ Refusal) → distance_reply a ≡ distance_reply b → a ≡ b
 distance_inj = back_inj distance_reply (λ (r : Reply). distance_from (told r)) distance_back
 
-abbrev commit_from : Told → CommitAnswer
-commit_from t = cond (eqb t.kind 0) (CommitAnswer.Refused (refusal_of t.number)) (cond (eqb t.kind 6) (CommitAnswer.Committed (record { 0 = t.number })) (CommitAnswer.Aborted t.rule))
+abbrev commit_from : Told → Result Stamp NotCommitted
+commit_from t = cond (eqb t.kind 0) (Err (NotCommitted.Refused (refusal_of t.number))) (cond (eqb t.kind 6) (Ok (record { 0 = t.number })) (Err (NotCommitted.Aborted t.rule)))
 
-commit_back : (a : CommitAnswer) → commit_from (told (commit_reply a)) ≡ a
-commit_back (CommitAnswer.Committed s) = refl
-commit_back (CommitAnswer.Aborted r) = refl
-commit_back (CommitAnswer.Refused f) = ap CommitAnswer.Refused (number_back f)
+commit_back : (a : Result Stamp NotCommitted) → commit_from (told (commit_reply a)) ≡ a
+commit_back (Ok s) = refl
+commit_back (Err (NotCommitted.Aborted r)) = refl
+commit_back (Err (NotCommitted.Refused f)) = ap (λ (g : Refusal). Err (NotCommitted.Refused g)) (number_back f)
 
-pub commit_inj : (a b : CommitAnswer) → commit_reply a ≡ commit_reply b → a ≡ b
+pub commit_inj : (a b : Result Stamp NotCommitted) → commit_reply a ≡ commit_reply b → a ≡ b
 commit_inj = back_inj commit_reply (λ (r : Reply). commit_from (told r)) commit_back
 
-abbrev made_from : Told → MadeAnswer
-made_from t = cond (eqb t.kind 0) (MadeAnswer.Refused (refusal_of t.number)) MadeAnswer.Made
+-- the reply's meaning and the batch that an answer holds
+abbrev made_from : List Entry → Told → Result Batch Refusal
+made_from es t = cond (eqb t.kind 0) (Err (refusal_of t.number)) (Ok (batch_of es))
 
-made_back : (es : List Entry) (a : MadeAnswer) → made_from (told (made_reply a es)) ≡ a
-made_back es MadeAnswer.Made = refl
-made_back es (MadeAnswer.Refused f) = ap MadeAnswer.Refused (number_back f)
+made_back : (es : List Entry) (a : Result Batch Refusal) → IfOk a (λ b. b ≡ batch_of es) → made_from es (told (made_reply a es)) ≡ a
+made_back es (Ok b) h = ap Ok (sym h)
+made_back es (Err f) h = ap Err (number_back f)
 
-pub made_inj : (es : List Entry) (a b : MadeAnswer) → made_reply a es ≡ made_reply b es → a ≡ b
-made_inj es = back_inj (λ (a : MadeAnswer). made_reply a es) (λ (r : Reply). made_from (told r)) (made_back es)
+pub made_inj : (es : List Entry) (a b : Result Batch Refusal) → made_reply a es ≡ made_reply b es → IfOk a (λ x. x ≡ batch_of es) → IfOk b (λ x. x ≡ batch_of es) → a ≡ b
+made_inj es a b e h k = sym (made_back es a h) ∙ ap (λ (r : Reply). made_from es (told r)) e ∙ made_back es b k
 
-abbrev newest_from : Told → NewestAnswer
-newest_from t = cond (eqb t.kind 0) (NewestAnswer.Refused (refusal_of t.number)) (NewestAnswer.MadeBy (record { 0 = t.number }))
+abbrev newest_from : Told → Result Stamp Refusal
+newest_from t = cond (eqb t.kind 0) (Err (refusal_of t.number)) (Ok (record { 0 = t.number }))
 
-newest_back : (a : NewestAnswer) → newest_from (told (newest_reply a)) ≡ a
-newest_back (NewestAnswer.MadeBy s) = refl
-newest_back (NewestAnswer.Refused f) = ap NewestAnswer.Refused (number_back f)
+newest_back : (a : Result Stamp Refusal) → newest_from (told (newest_reply a)) ≡ a
+newest_back (Ok s) = refl
+newest_back (Err f) = ap Err (number_back f)
 
-pub newest_inj : (a b : NewestAnswer) → newest_reply a ≡ newest_reply b → a ≡ b
+pub newest_inj : (a b : Result Stamp Refusal) → newest_reply a ≡ newest_reply b → a ≡ b
 newest_inj = back_inj newest_reply (λ (r : Reply). newest_from (told r)) newest_back

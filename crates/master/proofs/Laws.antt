@@ -9,7 +9,12 @@ use borrow.Author.Tests.{le-leb, lt-leb, lt-ltb, le-ltb, eq-eqb, ne_eqb}
 use lib.Dec.{leb}
 use lib.IntN.{ℤ}
 use lib.ListN.{length, get_or, set, take, length-take}
+use Rattle.std.specs.Prelude.{Option, Some, None, Ok, Err, SomeIff}
+use Rattle.std.specs.Option.{ok_or}
 use Rattle.units.specs.declared.Version.{Version}
+use Rattle.units.specs.Refusal.{number_of}
+use Rattle.units.specs.declared.refusal.Refusal.{Refusal}
+use Rattle.units.specs.declared.refusal.Refusal.TheVariants.{ClockSpent}
 use Rattle.units.specs.declared.rule.Rule.{Rule}
 use Rattle.units.specs.declared.rule.Certified.{Certified}
 use Rattle.units.specs.declared.rule.Certified.TheVariants.{Whole, Broken}
@@ -32,6 +37,7 @@ use Rattle.memory.proofs.Laws.{places_at}
 use Rattle.words.specs.Installed.{installed}
 use Rattle.words.proofs.Installing.{length-log}
 use Rattle.words.specs.After.{at, closed, change, after}
+use Rattle.desk.proofs.Laws.{refused-stays}
 
 -- ---- what is decided
 module _ (ws : List ℕ) (n : ℕ) where
@@ -107,17 +113,37 @@ module _ (ws : List ℕ) (n : ℕ) where
     unfolding step checks_of final_of order
     commit-aborts r e = rw (lt-leb 32 _ live, places_at ws (at ws n) live, e)
 
-    pub commit-full : certified (log_of ws) t ≡ Whole → 4096 < length (log_of ws) + length (writes_of t) → refused 6 ≡ (step (state_of ws) (Commit n)).reply
-    unfolding step checks_of final_of order
-    commit-full e h = rw (lt-leb 32 _ live, places_at ws (at ws n) live, e, lt-ltb 4096 _ h)
+    module _ (kept : certified (log_of ws) t ≡ Whole) where
+      size : length (log_of ws) ≡ length_of ws
+      size = length-log ws (length_of ws)
 
-    pub commit-spent : certified (log_of ws) t ≡ Whole → length (log_of ws) + length (writes_of t) ≤ 4096 → get_or ws 0 0 ≡ 4294967295 → refused 5 ≡ (step (state_of ws) (Commit n)).reply
-    unfolding step checks_of final_of order
-    commit-spent e h c = rw (lt-leb 32 _ live, places_at ws (at ws n) live, e, le-ltb 4096 _ h, eq-eqb _ _ c)
+      pub commit-full : 4096 - length_of ws < length (writes_of t) → refused 6 ≡ (step (state_of ws) (Commit n)).reply
+      unfolding step checks_of final_of order
+      commit-full h = rw (lt-leb 32 _ live, places_at ws (at ws n) live, kept, size, lt-ltb 4096 (length_of ws + length (writes_of t)) (omega arith))
 
-    pub commit_goes : certified (log_of ws) t ≡ Whole → length (log_of ws) + length (writes_of t) ≤ 4096 → (get_or ws 0 0 ≡ 4294967295 → ⊥) → committed (get_or ws 0 0 + 1) ≡ (step (state_of ws) (Commit n)).reply
-    unfolding step checks_of final_of order
-    commit_goes e h c = rw (lt-leb 32 _ live, places_at ws (at ws n) live, e, le-ltb 4096 _ h, ne_eqb _ _ c, add-one)
+      -- the clock's next stamp, or 5 where there is none
+      module _ (room : length (writes_of t) ≤ 4096 - length_of ws) (next : Option ℕ) (counts : SomeIff next (get_or ws 0 0 + 1 < 4294967296) (get_or ws 0 0 + 1)) where
+        pub commit-spent : get_or ws 0 0 < 4294967296 → (f : Refusal) → Err f ≡ ok_or next ClockSpent → refused (number_of f) ≡ (step (state_of ws) (Commit n)).reply
+        unfolding step checks_of final_of order
+        commit-spent h f e = go next counts e
+          where
+            go : (o : Option ℕ) → SomeIff o (get_or ws 0 0 + 1 < 4294967296) (get_or ws 0 0 + 1) → Err f ≡ ok_or o ClockSpent → refused (number_of f) ≡ (step (state_of ws) (Commit n)).reply
+            go None k e =
+                let spent : get_or ws 0 0 ≡ 4294967295 = omega arith in
+                let five : f ≡ ClockSpent = cc in
+                rw (five, lt-leb 32 _ live, places_at ws (at ws n) live, kept, size, le-ltb 4096 (length_of ws + length (writes_of t)) (omega arith), eq-eqb _ _ spent)
+            go (Some m) k e = absurd (cc)
+
+        pub commit_goes : (m : ℕ) → Ok m ≡ ok_or next ClockSpent → committed m ≡ (step (state_of ws) (Commit n)).reply
+        unfolding step checks_of final_of order
+        commit_goes m e = go next counts e
+          where
+            go : (o : Option ℕ) → SomeIff o (get_or ws 0 0 + 1 < 4294967296) (get_or ws 0 0 + 1) → Ok m ≡ ok_or o ClockSpent → committed m ≡ (step (state_of ws) (Commit n)).reply
+            go None k e = absurd (cc)
+            go (Some x) k e =
+                let is : m ≡ x = cc in
+                let more : (get_or ws 0 0 ≡ 4294967295 → ⊥) = (λ z. absurd (omega arith)) in
+                rw (is, k.1, lt-leb 32 _ live, places_at ws (at ws n) live, kept, size, le-ltb 4096 (length_of ws + length (writes_of t)) (omega arith), ne_eqb _ _ more, add-one)
 
 -- ---- what is changed
 module _ (ws us : List ℕ) (n p : ℕ) (e : p ≡ at ws n) where
@@ -147,66 +173,6 @@ module _ (ws : List ℕ) (n : ℕ) where
   unfolding change
   no_own k o v e = rw (← e)
 
--- ---- what is decided, from what the calls below say
-module _ (ws : List ℕ) (n i : ℕ) (t : Transaction) (e : i ≡ at ws n) (below : i < 32) (l : t ≡ loaded ws i) where
-  live : at ws n < 32
-  live = rw e at below
-
-  same : t ≡ loaded ws (at ws n)
-  same = l ∙ ap (loaded ws) e
-
-  pub own_at : (k : ℕ) (v : ℤ) (p : Pending) → k ≤ 63 → p ≡ pending_of t k → p ≡ Value v → own v ≡ (step (state_of ws) (Read n k)).reply
-  own_at k v p h g q = read-own ws n live k v h (rw (← same) (sym g ∙ q))
-
-  pub full_at : (k : ℕ) (p : Pending) → k ≤ 63 → p ≡ pending_of t k → p ≡ Nothing → (b : Bool) → b ≡ leb 16 t.recorded → b ≡ true → refused 4 ≡ (step (state_of ws) (Read n k)).reply
-  full_at k p h g q b e f = read-full ws n live k h (rw (← same) (sym g ∙ q)) (rw (← same) (sym e ∙ f))
-
-  pub newest-at : (k : ℕ) (p : Pending) (v : Version) → k ≤ 63 → p ≡ pending_of t k → p ≡ Nothing → (b : Bool) → b ≡ leb 16 t.recorded → b ≡ false → v ≡ newest (log_of ws) k → version v ≡ (step (state_of ws) (Read n k)).reply
-  newest-at k p v h g q b e f w = ap version w ∙ read_goes ws n live k h (rw (← same) (sym g ∙ q)) (rw (← same) (sym e ∙ f))
-
-  module _ (k o : ℕ) (p : Pending) (h : k ≤ 63) (g : p ≡ pending_of t k) where
-    pub written_at : (v : ℤ) → p ≡ Value v → refused 8 ≡ (step (state_of ws) (Note n k o)).reply
-    written_at v q = note-written ws n live k o h v (rw (← same) (sym g ∙ q))
-
-    module _ (q : p ≡ Nothing) (f : Found) (w : f ≡ look_up (log_of ws) k o) where
-      pub absent_at : f ≡ Absent → refused 7 ≡ (step (state_of ws) (Note n k o)).reply
-      absent_at z = note_absent ws n live k o h (rw (← same) (sym g ∙ q)) (sym w ∙ z)
-
-      module _ (v : Version) (z : f ≡ At v) (b : Bool) (r : b ≡ leb 16 t.recorded) where
-        pub note-full-at : b ≡ true → refused 4 ≡ (step (state_of ws) (Note n k o)).reply
-        note-full-at x = note-full ws n live k o h v (rw (← same) (sym g ∙ q)) (sym w ∙ z) (rw (← same) (sym r ∙ x))
-
-        pub noted-at : b ≡ false → version v ≡ (step (state_of ws) (Note n k o)).reply
-        noted-at x = note_goes ws n live k o h v (rw (← same) (sym g ∙ q)) (sym w ∙ z) (rw (← same) (sym r ∙ x))
-
-  module _ (p : ℕ) where
-    pub none-at : (m : ℕ) → m ≡ length (reads_of t) → m ≤ p → refused 9 ≡ (step (state_of ws) (Distance n p)).reply
-    none-at m q h = distance_none ws n live p (rw (q, same) at h)
-
-    pub distance-at : (m : ℕ) (x : Mark) (d : ℤ) → m ≡ length (reads_of t) → p < m → x ≡ get_or (reads_of t) p no_mark → d ≡ distance (log_of ws) t.name.0 x
-        → apart_by d ≡ (step (state_of ws) (Distance n p)).reply
-    distance-at m x d q h y z = ap apart_by (z ∙ ap (distance (log_of ws) t.name.0) y ∙ rw same) ∙ distance_goes ws n live p (rw (q, same) at h)
-
-  module _ (c : Certified) (g : c ≡ certified (log_of ws) t) where
-    pub aborts-at : (r : Rule) → c ≡ Broken r → aborted r ≡ (step (state_of ws) (Commit n)).reply
-    aborts-at r b = commit-aborts ws n live r (rw (← same) (sym g ∙ b))
-
-    module _ (whole : c ≡ Whole) (k u : ℕ) (long : k ≡ length_of ws) (many : u ≡ length (writes_of t)) where
-      sound : certified (log_of ws) (loaded ws (at ws n)) ≡ Whole
-      sound = rw (← same) (sym g ∙ whole)
-
-      size : length (log_of ws) + length (writes_of (loaded ws (at ws n))) ≡ k + u
-      size = rw (← same, ← many, length-log ws (length_of ws), long)
-
-      pub log-full-at : 4096 - k < u → refused 6 ≡ (step (state_of ws) (Commit n)).reply
-      log-full-at h = commit-full ws n live sound (omega (arith, size))
-
-      pub spent-at : u ≤ 4096 - k → get_or ws 0 0 ≡ 4294967295 → refused 5 ≡ (step (state_of ws) (Commit n)).reply
-      spent-at h z = commit-spent ws n live sound (omega (arith, size, long)) z
-
-      pub commits-at : (m : ℕ) → u ≤ 4096 - k → (get_or ws 0 0 ≡ 4294967295 → ⊥) → m ≡ get_or ws 0 0 + 1 → committed m ≡ (step (state_of ws) (Commit n)).reply
-      commits-at m h z q = ap committed q ∙ commit_goes ws n live sound (omega (arith, size, long)) z
-
 -- ---- the calls that only look at the log
 module _ (es : List Entry) (b : Batch) (e : b ≡ batch_of es) where
   few : b.count ≡ min 16 (length es)
@@ -235,3 +201,10 @@ module _ (ws : List ℕ) where
   pub newest_goes : (k : ℕ) (v : Version) → k ≤ 63 → v ≡ newest (log_of ws) k → made_by v.stamp.0 ≡ (step (state_of ws) (Newest k)).reply
   unfolding step checks_of final_of order
   newest_goes k v h e = rw (le-ltb 63 _ h, e)
+
+-- what the check finds the calls' answers by
+pub ruleset decided = (read-nobody, read_no_key, read-own, read-full, read_goes, note-nobody, note_no_key, note-written, note_absent, note-full, note_goes, distance-nobody, distance_none, distance_goes, commit-nobody, commit-aborts, commit-full, commit-spent, commit_goes)
+
+pub ruleset answered = (made_none, made_some, newest_no_key, newest_goes)
+
+pub ruleset done_so = (read-after, note-after, commit-after, abort-after, own-stays, no_own, refused-stays)

@@ -10,15 +10,12 @@ use lib.ListN.{length, get_or, drop, drop_of_length-le}
 use lib.Seq.{drop-cons}
 use borrow.Author.Tests.{lt-ltb, le-ltb, ltb-true, ltb-false, leb-true, leb-false}
 use Rattle.lists.specs.Lists.{any, count}
-use Rattle.units.specs.declared.Stamp.{Stamp}
 use Rattle.transaction.specs.declared.Mark.{Mark}
 use Rattle.transaction.specs.declared.Transaction.{Transaction}
 use Rattle.transaction.specs.Transaction.{no_mark}
 use Rattle.model.specs.Log.{Entry, of_key, between}
 use Rattle.model.specs.Rules.{apart}
-use Rattle.counts.proofs.Laws.{nothing-between}
-use Rattle.rules.specs.declared.Test.TheVariants.{Torn}
-use Rattle.rules.specs.Tests.{fails, latest}
+use Rattle.rules.specs.Tests.{torn, latest}
 
 -- the latest stamp, from what is left
 pub latest-more : (l : List Mark) (i last new w : ℕ) → max last (latest (drop i l)) ≡ w → i < length l → new ≡ max last (get_or l i no_mark).stamp.0
@@ -29,6 +26,17 @@ latest-more l i last new w e h f = rw (add-one i) (let k = rw (drop-cons l i no_
 pub latest_over : (l : List Mark) (i last w : ℕ) → max last (latest (drop i l)) ≡ w → length l ≤ i → last ≡ w
 unfolding latest
 latest_over l i last w e h = let k = rw (drop_of_length-le l h) at e in omega arith
+
+-- nothing lies before the first stamp
+none-before : (log : List Entry) (x a : ℕ) → between log x a 0 ≡ 0
+unfolding between count
+none-before [] x a = refl
+none-before (e ∷ es) x a = go (of_key x e) (ltb a e.stamp) (none-before es x a)
+  where
+    go : (k t : Bool) {n : ℕ} → n ≡ 0 → cond (k && (t && ltb e.stamp 0)) (suc n) n ≡ 0
+    go false t h = h
+    go true false h = h
+    go true true h = rw (le-ltb e.stamp 0 (omega arith)) h
 
 -- the versions between two stamps grow with the later one
 between_grows : (log : List Entry) (x a b c : ℕ) → b ≤ c → between log x a b ≤ between log x a c
@@ -73,8 +81,7 @@ module _ (f : ℕ → ℕ) (k : ℕ) (grows : (b c : ℕ) → b ≤ c → f b �
   any-latest z (y ∷ ys) = either y.stamp.0 (latest ys) ∙ rw (any-latest z ys)
 
 -- a read is apart from some read exactly if it is from the latest
-pub torn : (log : List Entry) (t : Transaction) (last : Stamp) (l : List Mark) → last.0 ≡ latest l → (x : Mark) → fails (Torn last) log t x ≡ any (apart log t x) l
-unfolding fails
-torn log t last l e x =
+pub torn_by : (log : List Entry) (t : Transaction) (last : ℕ) (l : List Mark) → last ≡ latest l → (x : Mark) → torn log t last x ≡ any (apart log t x) l
+torn_by log t last l e x =
     ap (λ (b : ℕ). ltb t.bounds.k3 (between log x.key x.stamp.0 b)) e
-    ∙ any-latest (between log x.key x.stamp.0) t.bounds.k3 (between_grows log x.key x.stamp.0) (sym (nothing-between log x.key x.stamp.0 0 (omega arith))) l
+    ∙ any-latest (between log x.key x.stamp.0) t.bounds.k3 (between_grows log x.key x.stamp.0) (none-before log x.key x.stamp.0) l

@@ -1,11 +1,7 @@
 -- `clear` meets its contract: place by place a transaction that has ended.
-use Prim.Native.Nat.{◌-◌, ◌≤◌}
 use mathlib.Core.Path.{◌≡◌}
 use Rattle.words.specs.After.{cleared}
 use Rattle.desk.proofs.clear.Given as goal
 
 abbrev pub invariant-loop-i : goal.invariant-loop-i
-invariant-loop-i l = (l.i ≤ 32) × (l.memory ≡ cleared l.initial.memory l.i)
-
-abbrev pub decreases-loop-i : goal.decreases-loop-i
-decreases-loop-i l = 32 - l.i
+invariant-loop-i l = l.memory ≡ cleared l.initial.memory l.i
