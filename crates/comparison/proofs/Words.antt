@@ -1,7 +1,7 @@
 -- A word as a set of keys: its digits name exactly the keys of which the test holds, its ones are their number, and the zeros below its
 -- lowest one lead to the lowest of them.
 use Prim.Native.Nat.{ℕ, zero, suc, ◌+◌, ◌-◌, ◌*◌, ◌/◌, ◌%◌, ◌^◌, ◌<◌}
-use native.Mathlib.Nat.{pow-suc, one-mul, zero-mul, div-one, add-mul-div_right, add-mul-mod_self_right}
+use native.Mathlib.Nat.{pow-suc, add-zero, zero-add, one-mul, zero-mul, mod-eq_of_lt, div-one, add-mul-div_right, add-mul-mod_self_right}
 use native.Mathlib.Decide.{ℕ_discrete}
 use native.Mathlib.Numerals.{add-one}
 use native.Mathlib.Omega.{arith}
@@ -9,13 +9,25 @@ use mathlib.Core.Path.{◌≡◌, refl, sym, ◌∙◌, ap}
 use mathlib.Core.Bool.{Bool, true, false, cond, ◌||◌}
 use mathlib.Core.Logic.{◌⊎◌, inl, inr, ⊎_elim}
 use lib.Count.{ones, ones_cat, count_trailing_zeros, under}
-use lib.Pow.{pow_pos, pow-add, high, shr-shr}
+use lib.Pow.{pow_pos, pow-lt, pow-add, high, shr-shr}
+use Rattle.std.specs.List.{list_any, range_with_len}
+use Rattle.std.proofs.lemmas.Grind.{common_steps}
 use Rattle.comparison.specs.Comparison.{some_key, word_of, how_many, lowest}
 
 -- the digit of a test
 abbrev pub digit : Bool → ℕ
 digit true = 1
 digit false = 0
+
+-- the keys in turn
+any_keys : (p : ℕ → Bool) (a n : ℕ) → list_any p (range_with_len a (suc n)) ≡ (list_any p (range_with_len a n) || p (a + n))
+any_keys p a zero = grind (arith, common_steps)
+any_keys p a (suc n) = rw (any_keys p (a + 1) n) (grind (arith, common_steps))
+
+pub some-any : (p : ℕ → Bool) (n : ℕ) → list_any p (range_with_len 0 n) ≡ some_key p n
+unfolding some_key
+some-any p zero = refl
+some-any p (suc n) = rw (any_keys p 0 n, some-any p n, zero-add)
 
 -- a digit more than k places up is even as seen from k
 far : (k j : ℕ) (t : Bool) → cond t (2 ^ (suc j + k)) 0 ≡ digit t * 2 ^ j * 2 * 2 ^ k
@@ -35,18 +47,21 @@ module _ (p : ℕ → Bool) where
       go true h = rw pow-suc (omega arith)
       go false h = rw pow-suc (omega (arith, pow_pos n))
 
-  pub word_more : (n w b : ℕ) → w ≡ word_of p n → b ≡ cond (p n) (2 ^ n) 0 → w + b ≡ word_of p (n + 1)
+  -- the word after a key below 64: the key is in it, or not
+  pub word_with : (n : ℕ) {w : ℕ} → w ≡ word_of p n → n < 64 → p n ≡ true → w + 1 * 2 ^ n % 2 ^ 64 ≡ word_of p (n + 1)
   unfolding word_of
-  word_more n w b e f = rw (add-one, e, f)
+  word_with n e h t =
+      let bit : 1 * 2 ^ n % 2 ^ 64 ≡ 2 ^ n = rw one-mul (mod-eq_of_lt (pow-lt {j = 64} h)) in
+      rw (add-one, e, t, bit)
+
+  pub word_without : (n : ℕ) {w : ℕ} → w ≡ word_of p n → p n ≡ false → w ≡ word_of p (n + 1)
+  unfolding word_of
+  word_without n e t = rw (add-one, e, t, add-zero)
 
   -- a word with a digit above it
   above : (n : ℕ) (t : Bool) → word_of p n + cond t (2 ^ n) 0 ≡ digit t * 2 ^ n + word_of p n
   above n true = rw one-mul (omega arith)
   above n false = rw zero-mul (omega arith)
-
-  pub some-none : (n : ℕ) → some_key p n ≡ false → p n ≡ false → some_key p (n + 1) ≡ false
-  unfolding some_key
-  some-none n h e = rw (add-one, h, e)
 
   pub some_hit : (n m : ℕ) → n < m → p n ≡ true → some_key p m ≡ true
   unfolding some_key

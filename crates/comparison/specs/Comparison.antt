@@ -1,21 +1,21 @@
 -- The comparison: document 01, "takes the copy's 64 ordinals and answers a 64-bit word with a one for each key that is behind, how many
 -- keys that is, and the lowest of them (64 if none)"; 11 where "some ordinal is above the master's".
-use Rattle.std.specs.Prelude.{ℕ, zero, suc, ◌+◌, ◌^◌, Bool, false, cond, ◌||◌, List, ltb, get_or}
+use Rattle.std.specs.Prelude.{ℕ, zero, suc, ◌+◌, ◌^◌, Bool, false, cond, ◌||◌, List, ltb, get_or, Result, Ok, Err}
 use Rattle.std.specs.Int.Count.{ones, count_trailing_zeros}
 use Rattle.units.specs.declared.Ordinal.{Ordinal}
 use Rattle.units.specs.Refusal.{number_of}
+use Rattle.units.specs.declared.refusal.Refusal.{Refusal}
 use Rattle.model.specs.Log.{Entry, newest}
-use Rattle.comparison.specs.declared.Compared.{Compared}
-use Rattle.comparison.specs.declared.Compared.TheVariants.{Behind, Refused}
+use Rattle.comparison.specs.declared.Behind.{Behind}
 
 -- the reply in document 01's numbers
 pub data CompareReply : Type 0 where
   behind : (word number lowest : ℕ) → CompareReply
   refused : (number : ℕ) → CompareReply
 
-abbrev pub compare_reply : Compared → CompareReply
-compare_reply (Behind word number lowest) = behind word number lowest
-compare_reply (Refused f) = refused (number_of f)
+abbrev pub compare_reply : Result Behind Refusal → CompareReply
+compare_reply (Ok b) = behind b.word b.keys b.lowest
+compare_reply (Err f) = refused (number_of f)
 
 -- the master's ordinal of a key
 abbrev pub newest_ordinal : List Entry → ℕ → ℕ

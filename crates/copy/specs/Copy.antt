@@ -1,16 +1,14 @@
 -- A hall's copy. Document 01: "A copy holds ordinal, stamp and value for each key, and a read there answers all three. A fresh copy
 -- has the start versions. For each version in a message it replaces its own exactly if the message's ordinal is greater".
-use Rattle.std.specs.Prelude.{ℕ, ◌≤◌, ◌<◌, ◌≡◌, cond, List, [], ◌∷◌, map, ltb, get_or, set, replicate}
+use Rattle.std.specs.Prelude.{ℕ, ◌≤◌, ◌<◌, ◌≡◌, cond, List, [], ◌∷◌, map, ltb, get_or, set, replicate, Result, Ok, Err}
 use Rattle.units.specs.Version.{start_version}
 use Rattle.units.specs.declared.Item.{Item}
 use Rattle.units.specs.declared.Ordinal.{Ordinal}
 use Rattle.units.specs.declared.Version.{Version}
 use Rattle.units.specs.Refusal.{number_of}
+use Rattle.units.specs.declared.refusal.Refusal.{Refusal}
 use Rattle.message.specs.Read.{Reading, whole, bad, read_line}
 use Rattle.copy.specs.declared.Copy.{Copy}
-use Rattle.copy.specs.declared.ReadAnswer.{ReadAnswer}
-use Rattle.copy.specs.declared.TakeAnswer.{TakeAnswer}
-use Rattle.copy.specs.declared.Taken.{Taken}
 
 -- ---- replies in document 01's numbers
 
@@ -19,21 +17,21 @@ pub data CopyReply : Type 0 where
   version : Version → CopyReply
   done : CopyReply
 
-abbrev pub held_reply : ReadAnswer → CopyReply
-held_reply (ReadAnswer.Answered v) = version v
-held_reply (ReadAnswer.Refused f) = refused (number_of f)
+abbrev pub held_reply : Result Version Refusal → CopyReply
+held_reply (Ok v) = version v
+held_reply (Err f) = refused (number_of f)
 
-abbrev pub take_reply : TakeAnswer → CopyReply
-take_reply TakeAnswer.Taken = done
-take_reply (TakeAnswer.Refused f) = refused (number_of f)
+abbrev pub take_reply : Result (Unit {0}) Refusal → CopyReply
+take_reply (Ok u) = done
+take_reply (Err f) = refused (number_of f)
 
 -- what a line comes to: the reply, and the copy after it
 pub record TakeStep : Type 0 where
   pub reply : CopyReply
   pub copy : Copy
 
-abbrev pub take_step : Taken → TakeStep
-take_step t = record { reply = take_reply t.answer; copy = t.copy }
+abbrev pub take_step : Result (Unit {0}) Refusal → Copy → TakeStep
+take_step answer c = record { reply = take_reply answer; copy = c }
 
 -- ---- what a copy holds
 

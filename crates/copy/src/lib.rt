@@ -1,35 +1,17 @@
 // A hall's copy: the newest version it has heard of, for each key, whatever the order in which messages arrive.
 #![tactic(auto)]
 
-ghost use Rattle.std.specs.Prelude.{◌<◌, ◌≡◌, ltb};
-ghost use Rattle.message.specs.Line.{items_of};
+ghost use Rattle.std.specs.Prelude.{◌≡◌, ltb};
+ghost use Rattle.units.specs.Batch.{items_of};
 ghost use Rattle.copy.specs.Copy.{held_reply, take_step, fresh_copy, read_of, ordinals_of, take_item, take_items, take_line};
 
-use message::{Form, read_message, size};
-use units::{Batch, Item, Ordinal, Refusal, Stamp, Version, limits};
+use message::{Message, read_message};
+use units::{Item, Ordinal, Refusal, Stamp, Version, limits};
 
 // The version held for each key.
 #[derive(Clone, Copy)]
 pub struct Copy {
     pub versions: [Version; limits::KEYS],
-}
-
-#[derive(Clone, Copy)]
-pub enum ReadAnswer {
-    Answered(Version),
-    Refused(Refusal),
-}
-
-#[derive(Clone, Copy)]
-pub enum TakeAnswer {
-    Taken,
-    Refused(Refusal),
-}
-
-#[derive(Clone, Copy)]
-pub struct Taken {
-    pub answer: TakeAnswer,
-    pub copy: Copy,
 }
 
 impl Copy {
@@ -42,81 +24,51 @@ impl Copy {
         }
     }
 
-    pub fn read(self, key: u32) -> ReadAnswer
+    pub fn read(self, key: u32) -> Result<Version, Refusal>
         ensures { held_reply result ≡ read_of self key }
     {
         if limits::LAST_KEY < key {
-            return ReadAnswer::Refused(Refusal::NoKey);
+            return Err(Refusal::NoKey);
         }
-        let k = key as usize;
-        ReadAnswer::Answered(self.versions[k])
+        Ok(self.versions[key as usize])
     }
 
     // What the comparison takes: the ordinal of each key.
     pub fn ordinals(self) -> [Ordinal; limits::KEYS]
         ensures { result ≡ ordinals_of self }
     {
-        let mut all = [Ordinal(0); limits::KEYS];
-        let mut i = 0;
-        while i < limits::KEYS {
-            let v = self.versions[i];
-            let ordinal = v.ordinal;
-            all[i] = ordinal;
-            i += 1;
-        }
-        all
+        self.versions.map(|version| version.ordinal)
     }
 
     // A line that is not of the form leaves the copy as it was.
-    pub fn take(self, line: &[u8]) -> Taken
-        ensures { take_step result ≡ take_line self line.now }
+    pub fn take(&mut self, line: &[u8]) -> Result<(), Refusal>
+        ensures { take_step result self.new ≡ take_line self.old line.now }
     {
-        let m = read_message(line);
-        let form = m.form;
-        match form {
-            Form::Whole => Taken {
-                answer: TakeAnswer::Taken,
-                copy: self.take_batch(m.stamp, m.batch),
-            },
-            Form::Bad => Taken {
-                answer: TakeAnswer::Refused(Refusal::NotAMessage),
-                copy: self,
-            },
-        }
+        let Message { stamp, batch } = read_message(line).ok_or(Refusal::NotAMessage)?;
+        self.take_items(stamp, batch.items());
+        Ok(())
     }
 
-    fn take_batch(self, stamp: Stamp, batch: Batch) -> Copy
-        ensures { result ≡ take_items self stamp.0 (items_of batch) }
+    fn take_items(&mut self, stamp: Stamp, items: &[Item])
+        ensures { self.new ≡ take_items self.old stamp.0 items.now }
     {
-        let end = size(batch);
-        let mut copy = self;
-        let mut i = 0;
-        while i < end {
-            copy = copy.take_item(stamp, batch.items[i]);
-            i += 1;
+        for item in items {
+            self.take_item(stamp, *item);
         }
-        copy
     }
 
     // A key past the last changes nothing.
-    fn take_item(mut self, stamp: Stamp, item: Item) -> Copy
-        ensures { result ≡ take_item self stamp.0 item }
+    fn take_item(&mut self, stamp: Stamp, item: Item)
+        ensures { self.new ≡ take_item self.old stamp.0 item }
     {
-        let k = item.key as usize;
-        if k < limits::KEYS {
-            if newer(item, self.versions[k]) {
-                let ordinal = item.ordinal;
-                let value = item.value;
-                self.versions[k] = Version {
-                    ordinal,
-                    stamp,
-                    value,
-                };
-                return self;
-            }
-            return self;
+        let k = usize::from(item.key);
+        if k < limits::KEYS && newer(item, self.versions[k]) {
+            self.versions[k] = Version {
+                ordinal: item.ordinal,
+                stamp,
+                value: item.value,
+            };
         }
-        self
     }
 }
 
@@ -124,5 +76,5 @@ impl Copy {
 fn newer(item: Item, own: Version) -> bool
     ensures { result ≡ ltb own.ordinal.0 item.ordinal.0 }
 {
-    own.ordinal.0 < item.ordinal.0
+    own.ordinal < item.ordinal
 }

@@ -3,11 +3,10 @@ use Prim.Native.Nat.{ℕ}
 use mathlib.Core.Path.{◌≡◌, refl, ◌∙◌}
 use mathlib.Core.Logic.{◌≢◌}
 use mathlib.Core.List.{List, [], ◌∷◌}
+use lib.IntN.{ℤ}
+use Rattle.std.specs.Prelude.{Option, Some, None}
 use Rattle.lists.specs.Lists.{none, also}
-use Rattle.units.specs.declared.Found.{Found}
-use Rattle.units.specs.declared.Found.TheVariants.{At, Absent}
-use Rattle.transaction.specs.declared.Pending.{Pending}
-use Rattle.transaction.specs.declared.Pending.TheVariants.{Value, Nothing}
+use Rattle.units.specs.declared.Version.{Version}
 use Rattle.transaction.specs.Transaction.{pending_of}
 use Rattle.model.specs.Log.{look_up}
 use Rattle.model.specs.State.{State, transaction}
@@ -22,13 +21,13 @@ module _ (s : State) where
   abbrev Quiet : Step → Type 0
   Quiet d = ((m : ℕ) → d.reply ≢ committed m) → d.state.log ≡ s.log
 
-  quiet_reads : (n k : ℕ) (p : Pending) → Quiet (reads s n k p)
-  quiet_reads n k (Value v) h = refl
-  quiet_reads n k Nothing h = refl
+  quiet_reads : (n k : ℕ) (p : Option ℤ) → Quiet (reads s n k p)
+  quiet_reads n k (Some v) h = refl
+  quiet_reads n k None h = refl
 
-  quiet_notes : (n k : ℕ) (f : Found) → Quiet (notes s n k f)
-  quiet_notes n k (At v) h = refl
-  quiet_notes n k Absent h = refl
+  quiet_notes : (n k : ℕ) (f : Option Version) → Quiet (notes s n k f)
+  quiet_notes n k (Some v) h = refl
+  quiet_notes n k None h = refl
 
   quiet_final : (c : Call) → Quiet (final_of s c)
   unfolding final_of

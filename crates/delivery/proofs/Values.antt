@@ -5,19 +5,16 @@ use mathlib.Core.Bool.{Bool, true, false, cond}
 use mathlib.Core.List.{List, ◌∷◌}
 use lib.Dec.{ltb}
 use lib.IntN.{ℤ}
+use Rattle.std.specs.Prelude.{Option, Some, None}
 use Rattle.lists.specs.Lists.{Every, none, also}
 use Rattle.lists.proofs.Every.{every_set, every_take}
 use Rattle.lists.proofs.Images.{every_get_or, every_replicate}
-use Rattle.units.specs.declared.Found.{Found}
-use Rattle.units.specs.declared.Found.TheVariants.{At, Absent}
 use Rattle.units.specs.declared.Version.{Version}
 use Rattle.units.specs.Bounds.{triple}
 use Rattle.decimal.specs.Read.{InRange, values}
 use Rattle.transaction.specs.declared.Mark.{Mark}
 use Rattle.transaction.specs.declared.Write.{Write}
 use Rattle.transaction.specs.declared.Transaction.{Transaction}
-use Rattle.transaction.specs.declared.Pending.{Pending}
-use Rattle.transaction.specs.declared.Pending.TheVariants.{Value, Nothing}
 use Rattle.transaction.specs.Transaction.{fresh, tuned, ended, recorded, written, wrote_at, pending_of, no_write}
 use Rattle.model.specs.Log.{Entry, next, installed, newest, look_up}
 use Rattle.model.specs.State.{State, opened, no_transaction, place_of, transaction, free_place, with_transaction}
@@ -60,13 +57,13 @@ module _ (s : State) (r : Ranged s) where
   ranged_records : (n k : ℕ) (v : Version) → Ranged (records s n k v).state
   ranged_records n k v = ranged_with n (recorded (transaction s n) (marked k v)) (recorded_ranged (transaction s n) (marked k v) (found_ranged n))
 
-  ranged_reads : (n k : ℕ) (p : Pending) → Ranged (reads s n k p).state
-  ranged_reads n k (Value v) = r
-  ranged_reads n k Nothing = ranged_records n k (newest s.log k)
+  ranged_reads : (n k : ℕ) (p : Option ℤ) → Ranged (reads s n k p).state
+  ranged_reads n k (Some v) = r
+  ranged_reads n k None = ranged_records n k (newest s.log k)
 
-  ranged_notes : (n k : ℕ) (f : Found) → Ranged (notes s n k f).state
-  ranged_notes n k (At v) = ranged_records n k v
-  ranged_notes n k Absent = r
+  ranged_notes : (n k : ℕ) (f : Option Version) → Ranged (notes s n k f).state
+  ranged_notes n k (Some v) = ranged_records n k v
+  ranged_notes n k None = r
 
   ranged_ended : (n : ℕ) → Ranged (with_transaction s n (ended (transaction s n)))
   ranged_ended n = ranged_with n (ended (transaction s n)) (found_ranged n)

@@ -9,7 +9,7 @@ use lib.Seq.{get_or-append_seam}
 use Rattle.units.specs.declared.Item.{Item}
 use Rattle.lists.specs.Lists.{any}
 use Rattle.decimal.specs.Text.{is_digit, spelt, decimal, plain, field, joined}
-use Rattle.decimal.specs.Read.{more, digits, unsigned, negative, field_at, as_natural, natural_at, as_signed, signed_at, natural_behind_tab, signed_behind_tab, on_number}
+use Rattle.decimal.specs.Read.{more, digits, unsigned, negative, field_at, as_natural, natural_at, signed_at, natural_behind_tab, signed_behind_tab, on_number}
 use Rattle.decimal.proofs.Reading.{Stops, after, reads_at, reads_one}
 use Rattle.decimal.proofs.Bad.{up_to, in_up_to}
 use Rattle.message.specs.Line.{item_text, items_text, message_text, IsMessage}
@@ -132,5 +132,5 @@ pub edges :
     × (read_line (112 ∷ 9 ∷ 51 ∷ 9 ∷ 53 ∷ 9 ∷ 49 ∷ 9 ∷ 48 ∷ 32 ∷ 10 ∷ []) ≡ bad)
     × (read_line (113 ∷ 9 ∷ 51 ∷ 9 ∷ 53 ∷ 9 ∷ 49 ∷ 9 ∷ 48 ∷ 10 ∷ []) ≡ bad)
     × (read_line [] ≡ bad)
-unfolding first run read_line items_at item_at natural_behind_tab signed_behind_tab on_number on_value on_piece ends_at if_distinct distinct any message_text joined item_text natural_at signed_at as_natural as_signed field_at digits more unsigned negative decimal spelt is_digit
+unfolding first run read_line items_at item_at natural_behind_tab signed_behind_tab on_number on_value on_piece ends_at if_distinct distinct any message_text joined item_text natural_at signed_at as_natural field_at digits more unsigned negative decimal spelt is_digit
 edges = (refl, refl, refl, refl, refl, refl, refl, refl, refl, refl, refl, refl, refl, refl, refl, refl, refl, refl)

@@ -18,14 +18,13 @@ use Rattle.lists.proofs.Images.{every_image, image_every}
 use Rattle.decimal.specs.Text.{field, joined}
 use Rattle.decimal.specs.Read.{naturals, natural_behind_tab, on_number, Tabbed}
 use Rattle.decimal.specs.Write.{Puts}
-use Rattle.decimal.specs.declared.read.Natural.{Natural}
 use Rattle.decimal.proofs.Reading.{after, head_of}
 use Rattle.decimal.proofs.Tabs.{byte_stands, natural_tabbed, tabbed_stands, tabbed_at, Took, number_took}
 use Rattle.decimal.proofs.Putting.{puts_front}
 use Rattle.message.specs.Line.{item_text, items_text, message_text, InRanges, IsMessage}
 use Rattle.message.specs.Read.{Reading, whole, bad, is_of_key, distinct, on_piece, item_at, ends_at, if_distinct, items_at, read_line, message_of, says, read_message_reply, reading_reply}
 use Rattle.message.specs.declared.read.Message.{Message}
-use Rattle.message.specs.declared.read.Piece.{Piece}
+use Rattle.std.specs.Prelude.{Option, Some}
 use Rattle.message.proofs.Items.{ItemAt, item-reads, item_back, piece_took, stops_items}
 
 no_reading : {A : Type 0} (stamp : ℕ) (items : List Item) → bad ≡ whole stamp items → A
@@ -136,7 +135,7 @@ module _ (stamp : ℕ) (s : List ℕ) (was : ℕ) (items : List Item) where
   unfolding items_at
   items_read zero at seen q = no_reading was items q
   items_read (suc left) at seen q =
-      let t : Took Piece.At (item_at s at) (λ i e. cond (ends_at s e) (if_distinct stamp (seen ++ (i ∷ []))) (items_at stamp left s e (seen ++ (i ∷ [])))) (whole was items) =
+      let t : Took (item_at s at) (λ i e. cond (ends_at s e) (if_distinct stamp (seen ++ (i ∷ []))) (items_at stamp left s e (seen ++ (i ∷ [])))) (whole was items) =
       piece_took (item_at s at) (λ i e. cond (ends_at s e) (if_distinct stamp (seen ++ (i ∷ []))) (items_at stamp left s e (seen ++ (i ∷ [])))) bad (whole was items) (no_reading was items) q in
       go t.v t.e (item-reads s at t.v t.e t.is) (ends_at s t.e) refl (items_read left t.e (seen ++ (t.v ∷ []))) t.goes
     where
@@ -148,7 +147,7 @@ module _ (stamp : ℕ) (s : List ℕ) (was : ℕ) (items : List Item) where
 module _ (stamp : ℕ) (s : List ℕ) where
   -- the first version of a text that is read on
   first_back : (at : ℕ) (i : Item) (rest : List Item) → drop at s ≡ items_text (i ∷ rest) ++ (10 ∷ []) → InRanges i
-      → (item_at s at ≡ Piece.At i (at + length (item_text i))) × (drop (at + length (item_text i)) s ≡ items_text rest ++ (10 ∷ []))
+      → (item_at s at ≡ Some (i, at + length (item_text i))) × (drop (at + length (item_text i)) s ≡ items_text rest ++ (10 ∷ []))
   unfolding joined
   first_back at i rest q p =
       let text : drop at s ≡ item_text i ++ (items_text rest ++ (10 ∷ [])) = q ∙ append_assoc (item_text i) (items_text rest) (10 ∷ []) in
@@ -160,10 +159,10 @@ module _ (stamp : ℕ) (s : List ℕ) where
   items_back left at seen [] text none some few d = absurd (omega arith)
   items_back zero at seen (i ∷ rest) text (also p ps) some few d = absurd (omega arith)
   items_back (suc left) at seen (i ∷ []) text (also p none) some few d =
-      let f : (item_at s at ≡ Piece.At i (at + length (item_text i))) × (drop (at + length (item_text i)) s ≡ 10 ∷ []) = first_back at i [] text p in
+      let f : (item_at s at ≡ Some (i, at + length (item_text i))) × (drop (at + length (item_text i)) s ≡ 10 ∷ []) = first_back at i [] text p in
       rw (f.0, ends-here s (at + length (item_text i)) f.1, d)
   items_back (suc left) at seen (i ∷ j ∷ rest) text (also p (also q ps)) some few d =
-      let f : (item_at s at ≡ Piece.At i (at + length (item_text i))) × (drop (at + length (item_text i)) s ≡ items_text (j ∷ rest) ++ (10 ∷ [])) = first_back at i (j ∷ rest) text p in
+      let f : (item_at s at ≡ Some (i, at + length (item_text i))) × (drop (at + length (item_text i)) s ≡ items_text (j ∷ rest) ++ (10 ∷ [])) = first_back at i (j ∷ rest) text p in
       let again : items_at stamp left s (at + length (item_text i)) (seen ++ (i ∷ [])) ≡ whole stamp ((seen ++ (i ∷ [])) ++ (j ∷ rest)) =
       items_back left (at + length (item_text i)) (seen ++ (i ∷ [])) (j ∷ rest) f.1 (also q ps) (omega arith) (omega arith) (ap distinct (append_assoc seen (i ∷ []) (j ∷ rest)) ∙ d) in
       rw (f.0, goes_on s (at + length (item_text i)) _ f.1) (again ∙ ap (whole stamp) (append_assoc seen (i ∷ []) (j ∷ rest)))
@@ -195,7 +194,7 @@ module _ (s : List ℕ) (stamp : ℕ) (items : List Item) where
 
       go : (t : Bool) → eqb (get_or s 0 0) 112 ≡ t → cond t (on_number (natural_behind_tab s 1 1 4294967295) (λ was e. items_at was 16 s e []) bad) bad ≡ whole stamp items → (s ≡ message_text stamp items) × IsMessage stamp items
       go true h q =
-          let t : Took Natural.Number (natural_behind_tab s 1 1 4294967295) (λ was e. items_at was 16 s e []) (whole stamp items) =
+          let t : Took (natural_behind_tab s 1 1 4294967295) (λ was e. items_at was 16 s e []) (whole stamp items) =
           number_took (natural_behind_tab s 1 1 4294967295) (λ was e. items_at was 16 s e []) bad (whole stamp items) (no_reading stamp items) q in
           line_is t.v t.e h ((natural_tabbed s 1 1 4294967295 t.v t.e).0 t.is) (items_read t.v s stamp items 16 t.e [] t.goes)
       go false h q = no_reading stamp items q
@@ -244,7 +243,7 @@ message-reply s = go (read_line s) refl
     go (whole stamp items) q = ap (says stamp) (batch_items items (line_reads s stamp items q).1.few)
     go bad q = refl
 
-pub message-answered : (s : List ℕ) {m : Message} → m ≡ message_of (read_line s) → (read_message_reply m ≡ reading_reply (read_line s)) × (m ≡ message_of (read_line s))
+pub message-answered : (s : List ℕ) {m : Option Message} → m ≡ message_of (read_line s) → (read_message_reply m ≡ reading_reply (read_line s)) × (m ≡ message_of (read_line s))
 message-answered s e = (ap read_message_reply e ∙ message-reply s, e)
 
 -- a message of the form that was put at the front of a room is read back from there

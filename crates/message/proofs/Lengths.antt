@@ -8,7 +8,7 @@ use lib.Signed.{mag}
 use lib.ListN.{length, length-append}
 use Rattle.units.specs.declared.Item.{Item}
 use Rattle.lists.specs.Lists.{any, Every, none, also}
-use Rattle.decimal.specs.Read.{natural_at, signed_at, as_natural, as_signed, field_at, digits, more, unsigned, negative, natural_behind_tab, signed_behind_tab, on_number}
+use Rattle.decimal.specs.Read.{natural_at, signed_at, as_natural, field_at, digits, more, unsigned, negative, natural_behind_tab, signed_behind_tab, on_number}
 use Rattle.decimal.specs.Text.{field, joined, decimal, spelt, is_digit}
 use Rattle.decimal.proofs.Digits.{decimal-length, decimal_32, plain_32}
 use Rattle.decimal.proofs.Values.{value_small}
@@ -50,5 +50,5 @@ fullest zero = []
 fullest (suc n) = record { key = 48 + n; ordinal = record { 0 = 4096 }; value = negsuc 2147483647 } ∷ fullest n
 
 pub longest-reached : (length (message_text 4294967295 (fullest 16)) ≡ longest) × (read_line (message_text 4294967295 (fullest 16)) ≡ whole 4294967295 (fullest 16))
-unfolding fullest read_line items_at item_at natural_behind_tab signed_behind_tab on_number on_value on_piece ends_at if_distinct distinct any message_text joined item_text natural_at signed_at as_natural as_signed field_at digits more unsigned negative decimal spelt is_digit
+unfolding fullest read_line items_at item_at natural_behind_tab signed_behind_tab on_number on_value on_piece ends_at if_distinct distinct any message_text joined item_text natural_at signed_at as_natural field_at digits more unsigned negative decimal spelt is_digit
 longest-reached = (refl, refl)

@@ -1,5 +1,4 @@
 -- The laws of messages, for this crate's proofs and for those of the copy.
-pub mod Batches
 pub mod Items
 pub mod Steps
 pub mod Lengths

@@ -1,90 +1,142 @@
 -- A line, put field by field and version by version.
-use Prim.Native.Nat.{ℕ, ◌+◌, ◌*◌, ◌≤◌, ◌<◌}
-use native.Mathlib.Numerals.{add-one}
-use native.Mathlib.Omega.{arith}
-use mathlib.Core.Path.{◌≡◌, ap, ◌∙◌, subst}
-use mathlib.Core.List.{List, [], ◌∷◌, ◌++◌}
-use lib.IntN.{pos}
-use lib.ListN.{length, get_or, take}
-use lib.Seq.{take-suc, take_all}
+use Rattle.std.proofs.Common.{ℕ, ◌+◌, ◌*◌, ◌≤◌, ◌<◌, ◌≡◌, Option, Some, None, IsSome, Bool, true, false, cond, leb, zero-add, List, [], ◌∷◌, ◌++◌, length, get_or, take, drop, refl, sym, ap, ◌∙◌, arith, add-one, append_assoc, append-nil, length-append, length-take-le, take_all}
+use borrow.Author.Tests.{le-leb}
 use mir.Syntax.{w32}
 use mir.Val.{SFits}
+use lib.IntN.{pos}
+use lib.Seq.{take-suc, take-append_seam}
+use Rattle.std.specs.Option.{ok_or}
 use Rattle.units.specs.declared.Item.{Item}
-use Rattle.decimal.specs.Text.{field}
-use Rattle.decimal.specs.Write.{put, wrote, Puts}
-use Rattle.decimal.specs.declared.write.Put.{Put}
-use Rattle.decimal.specs.declared.write.Put.TheVariants.{Next, Full}
-use Rattle.decimal.proofs.Writing.{put-length}
-use Rattle.decimal.proofs.Putting.{puts_one, puts_next, puts_full, puts_length, puts_then, puts_more}
+use Rattle.units.specs.declared.refusal.Refusal.TheVariants.{NoRoom}
+use Rattle.decimal.specs.Text.{field, joined}
+use Rattle.decimal.specs.Write.{put, wrote}
+use Rattle.decimal.proofs.Writing.{put-room}
+use Rattle.decimal.proofs.Putting.{joined_snoc}
 use Rattle.decimal.proofs.Digits.{decimal_32}
 use Rattle.message.specs.Line.{item_text, items_text, message_text, no_item}
+use Rattle.message.specs.Write.{message_reply, bytes, refused, text_reply}
 use Rattle.message.proofs.Lengths.{item-length, item-longest}
 
--- ---- a field
+-- a text put behind what stands at the front of b
+module _ (b : List ℕ) (at : ℕ) (t : List ℕ) (room : at + length t ≤ length b) where
+  pub put_next : {w : Option ℕ} → w ≡ wrote b at t → w ≡ Some (at + length t)
+  unfolding wrote
+  put_next e = e ∙ rw (le-leb (at + length t) (length b) room)
 
--- a tab was put, and a text is to go behind it
-module _ (b : List ℕ) (at : ℕ) (t : List ℕ) {c : List ℕ} (tab : c ≡ put b at (9 ∷ [])) (room : at + length (9 ∷ t) ≤ length b) where
-  behind-tab : Puts b c at (9 ∷ []) (at + 1)
-  behind-tab = puts_one (omega arith) tab
+  pub put_front : take (at + length t) (put b at t) ≡ take at b ++ t
+  put_front =
+      let n : at + length t ≡ length (take at b ++ t) = omega (arith, length-append (take at b) t, length-take-le at b (omega arith)) in
+      ap (take (at + length t)) (put-room b at t room)
+      ∙ ap (λ (k : ℕ). take k (take at b ++ t ++ drop (at + length t) b)) n
+      ∙ take-append_seam (take at b ++ t) (drop (at + length t) b)
 
-  module _ {d : List ℕ} {w : Put} (p : (w ≡ wrote c (at + 1) t) × (d ≡ put c (at + 1) t)) where
-    pub field_next : {e : ℕ} → w ≡ Next e → Puts b d at (9 ∷ t) e
-    field_next q = puts_then behind-tab (puts_next c (at + 1) t p.0 p.1 q)
+-- ---- a line that grows
 
-    pub field-full : w ≡ Full → ⊥
-    field-full q = puts_full c (at + 1) t p.0 (omega (arith, puts_length behind-tab)) q
+-- a tab was put behind the line `old`, and the text t is to go behind it
+module _ (old t bytes : List ℕ) (end : ℕ) {now : List ℕ} (whole : length bytes ≡ 445) (within : end ≤ 445) (view : take end bytes ≡ now) (tab : now ≡ old ++ (9 ∷ [])) (room : length old + length (9 ∷ t) ≤ 445) where
+  place : end ≡ length old + 1
+  place = omega (arith, ap length (view ∙ tab), length-take-le end bytes (omega arith), length-append old (9 ∷ []))
 
--- ---- a version
+  fits : end + length t ≤ length bytes
+  fits = omega (arith, place)
 
-module _ (b : List ℕ) (at : ℕ) (i : Item) (room : at + 27 ≤ length b) (k : i.key < 256) (o : i.ordinal.0 < 4294967296) (v : SFits w32 i.value) where
+  module _ {w : Option ℕ} (p : w ≡ wrote bytes end t) where
+    pub field_some : IsSome w
+    field_some = rw (put_next bytes end t fits p)
+
+    module _ {r : ℕ} (q : w ≡ Some r) where
+      ends : r ≡ end + length t
+      ends = let e : Some r ≡ Some (end + length t) = sym q ∙ put_next bytes end t fits p in cc
+
+      pub field_within : r ≤ 445
+      field_within = omega (arith, ends, fits)
+
+      pub field_put : {c : List ℕ} → c ≡ put bytes end t → take r c ≡ old ++ (9 ∷ t)
+      field_put e =
+          rw (ends, e)
+          (put_front bytes end t fits ∙ ap (λ (l : List ℕ). l ++ t) (view ∙ tab) ∙ append_assoc old (9 ∷ []) t)
+
+-- a version, field by field; 27 bytes are the most that it takes
+module _ (old : List ℕ) (i : Item) (room : length old + 27 ≤ 445) (k : i.key < 256) (o : i.ordinal.0 < 4294967296) (v : SFits w32 i.value) where
   long : length (field (pos i.key)) + length (field (pos i.ordinal.0)) + length (field i.value) ≤ 27
   long = omega (arith, item-length i, item-longest i k o v.sfits)
 
-  pub key-room : at + length (field (pos i.key)) ≤ length b
+  pub key-room : length old + length (field (pos i.key)) ≤ 445
   key-room = omega (arith, long)
 
-  module _ {c : List ℕ} {m : ℕ} (p : Puts b c at (field (pos i.key)) m) where
-    pub ordinal-room : m + length (field (pos i.ordinal.0)) ≤ length c
-    ordinal-room = omega (arith, long, puts_length p, p.place)
+  module _ {a : List ℕ} (p : a ≡ old ++ field (pos i.key)) where
+    pub ordinal-room : length a + length (field (pos i.ordinal.0)) ≤ 445
+    ordinal-room = omega (arith, long, ap length p, length-append old (field (pos i.key)))
 
-    module _ {d : List ℕ} {n : ℕ} (q : Puts c d m (field (pos i.ordinal.0)) n) where
-      pub value_room : n + length (field i.value) ≤ length d
-      value_room = omega (arith, long, puts_length p, p.place, puts_length q, q.place)
+    module _ {b : List ℕ} (q : b ≡ a ++ field (pos i.ordinal.0)) where
+      pub value_room : length b + length (field i.value) ≤ 445
+      value_room = omega (arith, long, ap length p, length-append old (field (pos i.key)), ap length q, length-append a (field (pos i.ordinal.0)))
 
-      pub item-put : {e : List ℕ} {r : ℕ} → Puts d e n (field i.value) r → (Puts b e at (item_text i) r) × (r ≤ at + 27)
+      pub item-put : {c : List ℕ} → c ≡ b ++ field i.value → (c ≡ old ++ item_text i) × (length c ≤ length old + 27)
       unfolding item_text
-      item-put s = (puts_then (puts_then p q) s, omega (arith, long, p.place, q.place, s.place))
-
--- ---- runs of versions
-
-module _ (b : List ℕ) (at : ℕ) (l : List Item) {c : List ℕ} {to i : ℕ} (p : Puts b c at (items_text (take i l)) to) where
-  -- one more; 27 bytes are the most that each takes
-  pub items_more : {d : List ℕ} {r : ℕ} (x : Item) → i < length l → to ≤ at + 27 * i → get_or l i no_item ≡ x → (Puts c d to (item_text x) r) × (r ≤ to + 27)
-      → (r ≤ at + 27 * (i + 1)) × Puts b d at (items_text (take (i + 1) l)) r
-  items_more x h small e q =
-      let next : take (i + 1) l ≡ take i l ++ (x ∷ []) = ap (λ (k : ℕ). take k l) (add-one i) ∙ take-suc l i no_item h ∙ ap (λ (y : Item). take i l ++ (y ∷ [])) e in
-      (omega (arith, q.1), puts_more item_text (take i l) x next p q.0)
-
-  pub items_all : length l ≤ i → Puts b c at (items_text l) to
-  items_all h = subst (λ (k : List Item). Puts b c at (items_text k) to) (take_all i l h) p
+      item-put s = (
+        s ∙ rw (q, p, append_assoc old (field (pos i.key)) (field (pos i.ordinal.0)), append_assoc old (field (pos i.key) ++ field (pos i.ordinal.0)) (field i.value)),
+        omega (
+          arith,
+          long,
+          ap length p,
+          length-append old (field (pos i.key)),
+          ap length q,
+          length-append a (field (pos i.ordinal.0)),
+          ap length s,
+          length-append b (field i.value),
+        ),
+      )
 
 -- ---- the line
 
-module _ (b : List ℕ) (stamp : ℕ) (items : List Item) (room : length b ≡ 445) (small : stamp < 4294967296) where
-  pub stamp-room : {c : List ℕ} → c ≡ put b 0 (112 ∷ []) → 1 + length (field (pos stamp)) ≤ length c
-  stamp-room e = omega (arith, ap length e, put-length b 0 (112 ∷ []), decimal_32 stamp small)
+-- the letter, the stamp and the first n versions
+pub record LineTo (stamp : ℕ) (items : List Item) (line : List ℕ) (n : ℕ) : Type 0 where
+  pub text : line ≡ 112 ∷ (field (pos stamp) ++ items_text (take n items))
+  pub long : length line ≤ 12 + 27 * n
 
-  module _ {c d : List ℕ} {at : ℕ} (e : c ≡ put b 0 (112 ∷ [])) (p : Puts c d 1 (field (pos stamp)) at) where
-    pub items_room : at + 432 ≤ length d
-    items_room = omega (arith, puts_length p, p.place, ap length e, put-length b 0 (112 ∷ []), decimal_32 stamp small)
+module _ (stamp : ℕ) (small : stamp < 4294967296) where
+  pub stamp-room : {line : List ℕ} → line ≡ 112 ∷ [] → length line + length (field (pos stamp)) ≤ 445
+  stamp-room e = omega (arith, ap length e, decimal_32 stamp small)
 
-    module _ {f : List ℕ} {end : ℕ} (q : (Puts d f at (items_text items) end) × (end ≤ at + 432)) where
-      pub end_small : end + 1 ≤ 445
-      end_small = omega (arith, p.place, q.1, decimal_32 stamp small)
+  pub line_none : (items : List Item) {letter line : List ℕ} → letter ≡ 112 ∷ [] → line ≡ letter ++ field (pos stamp) → LineTo stamp items line 0
+  unfolding joined
+  line_none items {letter} {line} d e =
+      let f : line ≡ 112 ∷ field (pos stamp) = rw d at e in
+      record { text = f ∙ ap (λ (l : List ℕ). 112 ∷ l) (sym (append-nil (field (pos stamp)))); long = omega (arith, ap length f, decimal_32 stamp small) }
 
-      pub line-put : {g : List ℕ} → g ≡ put f end (10 ∷ []) → (Puts b g 0 (message_text stamp items) (end + 1)) × (end + 1 ≤ 445)
-      unfolding message_text
-      line-put h =
-          let letter : Puts b c 0 (112 ∷ []) 1 = puts_one (omega arith) e in
-          let newline : Puts f _ end (10 ∷ []) (end + 1) = puts_one (omega (arith, end_small, puts_length q.0, puts_length p, puts_length letter)) h in
-          (puts_then (puts_then (puts_then letter p) q.0) newline, end_small)
+module _ (stamp : ℕ) (items : List Item) {line : List ℕ} {n : ℕ} (p : LineTo stamp items line n) where
+  pub item_room : length items ≤ 16 → n < length items → length line + 27 ≤ 445
+  item_room few h = omega (arith, p.long)
+
+  pub line_more : {more : List ℕ} → n < length items → more ≡ line ++ item_text (get_or items n no_item) → length more ≤ length line + 27 → LineTo stamp items more (n + 1)
+  line_more h e l =
+      let x : Item = get_or items n no_item in
+      let next : take (n + 1) items ≡ take n items ++ (x ∷ []) = ap (λ (k : ℕ). take k items) (add-one n) ∙ take-suc items n no_item h in
+      record {
+        text =
+            e
+            ∙ ap (λ (a : List ℕ). a ++ item_text x) p.text
+            ∙ ap (λ (a : List ℕ). 112 ∷ a) (append_assoc (field (pos stamp)) (items_text (take n items)) (item_text x))
+            ∙ ap (λ (a : List ℕ). 112 ∷ (field (pos stamp) ++ a)) (sym (joined_snoc item_text (take n items) x))
+            ∙ ap (λ (a : List Item). 112 ∷ (field (pos stamp) ++ items_text a)) (sym next);
+        long = omega (arith, p.long);
+      }
+
+  pub newline-room : length items ≤ 16 → n ≤ length items → length line < 445
+  newline-room few h = omega (arith, p.long)
+
+  pub line_all : {whole : List ℕ} → length items ≤ n → whole ≡ line ++ (10 ∷ []) → whole ≡ message_text stamp items
+  unfolding message_text
+  line_all h e = e ∙ ap (λ (a : List ℕ). a ++ (10 ∷ [])) (p.text ∙ ap (λ (a : List Item). 112 ∷ (field (pos stamp) ++ items_text a)) (take_all n items h))
+
+-- ---- the line handed over
+
+-- what `put_text` answered, or NoRoom in its place
+pub handed : (room text : List ℕ) {line : List ℕ} {w : Option ℕ} → w ≡ wrote room 0 line → line ≡ text → message_reply (ok_or w NoRoom) ≡ text_reply room text
+unfolding wrote text_reply
+handed room text p q = rw (p, q, zero-add) (go (leb (length text) (length room)))
+  where
+    go : (t : Bool) → message_reply (ok_or (cond t (Some (length text)) None) NoRoom) ≡ cond t (bytes (length text)) (refused 17)
+    go true = refl
+    go false = refl

@@ -1,15 +1,11 @@
 -- Reading a message line, from its front, and each number with its range. Document 01: "Here and in a message, a number out of
 -- its range is not of the form".
-use Rattle.std.specs.Prelude.{ℕ, zero, suc, ◌+◌, Bool, true, cond, not, ◌&&◌, List, [], ◌∷◌, ◌++◌, eqb, ℤ, length, get_or}
+use Rattle.std.specs.Prelude.{ℕ, zero, suc, ◌+◌, Bool, true, cond, not, ◌&&◌, List, [], ◌∷◌, ◌++◌, eqb, ℤ, length, get_or, Option, Some, None}
 use Rattle.lists.specs.Lists.{any}
 use Rattle.units.specs.declared.Item.{Item}
-use Rattle.units.specs.declared.Batch.{Batch}
 use Rattle.decimal.specs.Read.{natural_behind_tab, signed_behind_tab, on_number}
-use Rattle.decimal.specs.declared.read.Signed.{Signed}
 use Rattle.message.specs.Line.{items_of, batch_of}
-use Rattle.message.specs.declared.read.Form.{Form}
 use Rattle.message.specs.declared.read.Message.{Message}
-use Rattle.message.specs.declared.read.Piece.{Piece}
 
 -- a line says its stamp and versions, or is not of the form
 pub data Reading : Type 0 where
@@ -18,23 +14,23 @@ pub data Reading : Type 0 where
 
 -- ---- what follows a value, a version and the place behind it; or what is answered where there is none
 
-unfoldable pub on_value : {A : Type 0} → Signed → (ℤ → ℕ → A) → A → A
-on_value (Signed.Number v e) f no_value = f v e
-on_value Signed.Bad f no_value = no_value
+unfoldable pub on_value : {A : Type 0} → Option (ℤ × ℕ) → (ℤ → ℕ → A) → A → A
+on_value (Some (v, e)) f no_value = f v e
+on_value None f no_value = no_value
 
-unfoldable pub on_piece : {A : Type 0} → Piece → (Item → ℕ → A) → A → A
-on_piece (Piece.At i e) f no_piece = f i e
-on_piece Piece.Bad f no_piece = no_piece
+unfoldable pub on_piece : {A : Type 0} → Option (Item × ℕ) → (Item → ℕ → A) → A → A
+on_piece (Some (i, e)) f no_piece = f i e
+on_piece None f no_piece = no_piece
 
 -- ---- the parts of a line
 
-unfoldable pub item_at : List ℕ → ℕ → Piece
+unfoldable pub item_at : List ℕ → ℕ → Option (Item × ℕ)
 item_at s at =
     on_number (natural_behind_tab s at 0 63) (λ k a.
     on_number (natural_behind_tab s a 1 4096) (λ o b.
     on_value (signed_behind_tab s b) (λ v e.
-    Piece.At (record { key = k; ordinal = record { 0 = o }; value = v }) e)
-    Piece.Bad) Piece.Bad) Piece.Bad
+    Some (record { key = k; ordinal = record { 0 = o }; value = v }, e))
+    None) None) None
 
 abbrev pub is_of_key : ℕ → Item → Bool
 is_of_key k i = eqb i.key k
@@ -64,18 +60,9 @@ read_line s = cond (eqb (get_or s 0 0) 112) (on_number (natural_behind_tab s 1 1
 
 -- ---- the reading as the code hands it over
 
-abbrev pub message : ℕ → Batch → Message
-message stamp b = record { form = Form.Whole; stamp = record { 0 = stamp }; batch = b }
-
-abbrev pub no_message : Message
-no_message = record { form = Form.Bad; stamp = record { 0 = 0 }; batch = batch_of [] }
-
-unfoldable pub message_of : Reading → Message
-message_of (whole stamp items) = message stamp (batch_of items)
-message_of bad = no_message
-
-unfoldable pub message_if_distinct : ℕ → Batch → Message
-message_if_distinct stamp b = cond (distinct (items_of b)) (message stamp b) no_message
+unfoldable pub message_of : Reading → Option Message
+message_of (whole stamp items) = Some (record { stamp = record { 0 = stamp }; batch = batch_of items })
+message_of bad = None
 
 -- ---- the same in document 01's numbers: the stamp and the versions that the line says, or 10, "message line not of the form above"
 
@@ -83,12 +70,9 @@ pub data ReadMessageReply : Type 0 where
   says : (stamp : ℕ) → List Item → ReadMessageReply
   refused : (number : ℕ) → ReadMessageReply
 
-abbrev pub form_reply : Form → ℕ → List Item → ReadMessageReply
-form_reply Form.Whole stamp items = says stamp items
-form_reply Form.Bad stamp items = refused 10
-
-abbrev pub read_message_reply : Message → ReadMessageReply
-read_message_reply m = form_reply m.form m.stamp.0 (items_of m.batch)
+abbrev pub read_message_reply : Option Message → ReadMessageReply
+read_message_reply (Some m) = says m.stamp.0 (items_of m.batch)
+read_message_reply None = refused 10
 
 abbrev pub reading_reply : Reading → ReadMessageReply
 reading_reply (whole stamp items) = says stamp items

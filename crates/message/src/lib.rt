@@ -4,13 +4,13 @@
 ghost use Rattle.std.specs.Prelude.{◌≤◌, ◌≡◌, length};
 ghost use Rattle.message.specs.Line.{items_of, longest};
 
-use units::{Batch, at_most, limits};
+use units::{Batch, limits};
 
 mod read;
 mod write;
 
-pub use read::{Form, Message, read_message};
-pub use write::{MessageAnswer, write_message};
+pub use read::{Message, read_message};
+pub use write::write_message;
 
 const LETTER: u8 = b'p';
 
@@ -18,7 +18,7 @@ const LETTER: u8 = b'p';
 pub fn size(batch: Batch) -> usize
     ensures { (result ≡ length (items_of batch)) × ((result ≤ batch.count) × (result ≤ 16)) }
 {
-    at_most(batch.count, limits::WRITES)
+    batch.count.min(limits::WRITES)
 }
 
 // Room for every message: "A message is at most 333 bytes".

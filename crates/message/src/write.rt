@@ -1,92 +1,100 @@
 // Writing a message line: whole, or not at all.
-ghost use Rattle.std.specs.Prelude.{◌+◌, ◌≤◌, ◌≡◌, pos, length};
+ghost use Rattle.std.specs.Prelude.{◌+◌, ◌<◌, ◌≤◌, ◌≡◌, [], ◌∷◌, ◌++◌, List, ℕ, pos, length, take};
 ghost use Rattle.decimal.specs.Text.{field};
-ghost use Rattle.decimal.specs.Write.{put, Puts};
-ghost use Rattle.message.specs.Line.{item_text, items_text, message_text, items_of};
+ghost use Rattle.decimal.specs.Write.{put};
+ghost use Rattle.message.specs.Line.{item_text, message_text, items_of};
 ghost use Rattle.message.specs.Write.{message_reply, text_reply};
 
-use crate::{LETTER, size};
-use decimal::{NEWLINE, Put, TAB, put_byte, put_natural, put_signed, put_text};
+use crate::LETTER;
+use decimal::{NEWLINE, TAB, put_natural, put_signed, put_text};
+use std::marker::Model;
 use units::{Batch, Item, Refusal, Stamp};
-
-// The length of the line, or NoRoom where the lent room is shorter.
-#[derive(Clone, Copy)]
-pub enum MessageAnswer {
-    Bytes(usize),
-    Refused(Refusal),
-}
 
 // Room for the line of any batch, also of one that no commit made: 1 + 11 + 16 * 27 + 1 bytes.
 const LONGEST: usize = 445;
 
-pub fn write_message(room: &mut [u8], stamp: Stamp, batch: Batch) -> MessageAnswer
+// The length of the line, or NoRoom where the lent room is shorter.
+pub fn write_message(room: &mut [u8], stamp: Stamp, batch: Batch) -> Result<usize, Refusal>
     ensures reply { message_reply result ≡ text_reply room.old (message_text stamp.0 (items_of batch)) }
     ensures buffer { room.new ≡ put room.old 0 (message_text stamp.0 (items_of batch)) }
 {
-    let mut text = [0u8; LONGEST];
-    let end = put_line(&mut text, stamp, batch);
-    let Put::Next(n) = put_text(room, 0, &text[..end]) else {
-        return MessageAnswer::Refused(Refusal::NoRoom);
-    };
-    MessageAnswer::Bytes(n)
+    let line = Line::of(stamp, batch.items());
+    put_text(room, 0, line.text()).ok_or(Refusal::NoRoom)
 }
 
-// The whole line, at the front of a text that is long enough for any.
-fn put_line(text: &mut [u8], stamp: Stamp, batch: Batch) -> usize
-    requires { length text.old ≡ 445 }
-    ensures { (Puts text.old text.new 0 (message_text stamp.0 (items_of batch)) result) × (result ≤ 445) }
-{
-    put_byte(text, 0, LETTER);
-    let at = put_field(text, 1, stamp.0 as u64);
-    let end = put_items(text, at, batch);
-    put_byte(text, end, NEWLINE);
-    end + 1
+// A line as it grows: what is written of it so far.
+#[derive(Drop)]
+struct Line {
+    bytes: [u8; LONGEST],
+    end: usize,
 }
 
-fn put_items(text: &mut [u8], at: usize, batch: Batch) -> usize
-    requires { at + 432 ≤ length text.old }
-    ensures { (Puts text.old text.new at (items_text (items_of batch)) result) × (result ≤ at + 432) }
-{
-    let end = size(batch);
-    let mut to = at;
-    let mut i = 0;
-    while i < end {
-        to = put_item(text, to, batch.items[i]);
-        i += 1;
+impl Model for Line {
+    ghost Value = { List ℕ };
+
+    ghost view = { λ l. take l.end l.bytes };
+
+    ghost invariant = { λ l. l.end ≤ 445 };
+}
+
+impl Line {
+    // The whole line.
+    fn of(stamp: Stamp, items: &[Item]) -> Line
+        requires { length items.now ≤ 16 }
+        ensures { result ≡ message_text stamp.0 items.now }
+    {
+        let mut line = Line {
+            bytes: [0; LONGEST],
+            end: 0,
+        };
+        line.put_byte(LETTER);
+        line.put_field(u64::from(stamp.0));
+        for item in items {
+            line.put_item(*item);
+        }
+        line.put_byte(NEWLINE);
+        line
     }
-    to
-}
 
-fn put_item(text: &mut [u8], at: usize, item: Item) -> usize
-    requires { at + 27 ≤ length text.old }
-    ensures { (Puts text.old text.new at (item_text item) result) × (result ≤ at + 27) }
-{
-    let a = put_field(text, at, item.key as u64);
-    let b = put_field(text, a, item.ordinal.0 as u64);
-    let value = item.value;
-    put_value(text, b, value)
-}
+    fn text(&self) -> &[u8]
+        ensures { result.now ≡ self.now }
+    {
+        &self.bytes[..self.end]
+    }
 
-// A tab and a number that is not below zero.
-fn put_field(text: &mut [u8], at: usize, n: u64) -> usize
-    requires { at + length (field (pos n)) ≤ length text.old }
-    ensures { Puts text.old text.new at (field (pos n)) result }
-{
-    put_byte(text, at, TAB);
-    let Put::Next(e) = put_natural(text, at + 1, n) else {
-        return at;
-    };
-    e
-}
+    fn put_item(&mut self, item: Item)
+        requires { length self.old + 27 ≤ 445 }
+        ensures text { self.new ≡ self.old ++ item_text item }
+        ensures long { length self.new ≤ length self.old + 27 }
+    {
+        self.put_field(u64::from(item.key));
+        self.put_field(u64::from(item.ordinal.0));
+        self.put_value(item.value);
+    }
 
-// A tab and a value.
-fn put_value(text: &mut [u8], at: usize, n: i32) -> usize
-    requires { at + length (field n) ≤ length text.old }
-    ensures { Puts text.old text.new at (field n) result }
-{
-    put_byte(text, at, TAB);
-    let Put::Next(e) = put_signed(text, at + 1, n) else {
-        return at;
-    };
-    e
+    // A tab and a number that is not below zero.
+    fn put_field(&mut self, n: u64)
+        requires { length self.old + length (field (pos n)) ≤ 445 }
+        ensures { self.new ≡ self.old ++ field (pos n) }
+    {
+        self.put_byte(TAB);
+        self.end = put_natural(&mut self.bytes, self.end, n).unwrap();
+    }
+
+    // A tab and a value.
+    fn put_value(&mut self, n: i32)
+        requires { length self.old + length (field n) ≤ 445 }
+        ensures { self.new ≡ self.old ++ field n }
+    {
+        self.put_byte(TAB);
+        self.end = put_signed(&mut self.bytes, self.end, n).unwrap();
+    }
+
+    fn put_byte(&mut self, b: u8)
+        requires { length self.old < 445 }
+        ensures { self.new ≡ self.old ++ b ∷ [] }
+    {
+        self.bytes[self.end] = b;
+        self.end += 1;
+    }
 }

@@ -8,4 +8,4 @@ returns-then-some_ahead c = rw (← c.some_ahead.ensures, c.if-some_ahead.true)
 
 pub returns : goal.returns
 unfolding compared
-returns c = rw (← c.some_ahead.ensures, c.if-some_ahead.false, ← c.behind-word.ensures)
+returns c = rw (← c.some_ahead.ensures, c.if-some_ahead.false, ← c.keys_behind-word.ensures)

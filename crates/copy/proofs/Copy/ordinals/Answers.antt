@@ -1,23 +1,20 @@
--- `ordinals` meets its contract. The invariant: those copied so far are the first of all.
-use native.Mathlib.Omega.{arith}
-use mathlib.Core.Path.{◌≡◌, refl}
-use lib.ListN.{length, length-set}
+-- `ordinals` meets its contract: the two lists, place by place.
+use Rattle.std.proofs.Common.{◌≡◌, ◌∙◌, get_or, length, sym, pos, rules, arith}
+use lib.ListN.{length-map, get_or-map}
+use Rattle.std.proofs.lemmas.List.{same_lists}
 use Rattle.lists.proofs.Length.{length_mapped}
-use Rattle.copy.proofs.Steps.{ordinals-next, ordinals_all}
-use borrow.Author.Rules.{rules}
+use Rattle.units.specs.declared.Version.{Version}
+use Rattle.copy.specs.Copy.{ordinal_of, ordinals_of}
 use Rattle.copy.proofs.Copy.ordinals.Goals as goal
 
-pub loop-i-init : goal.loop-i-init
-loop-i-init c = (omega arith, (refl, refl))
-
-pub loop-i-preserved : goal.loop-i-preserved
-loop-i-preserved c =
-    let t = c.args.self in
-    let l : length t.versions ≡ 64 = search (rules, length_mapped) in
-    (omega arith, (simp length-set c.loop-i.invariant.1.0, ordinals-next t c.loop-i.all c.loop-i.i c.loop-i.invariant.1.1 (omega arith) (omega arith)))
-
 pub returns : goal.returns
+unfolding ordinals_of
 returns c =
-    let t = c.args.self in
-    let l : length t.versions ≡ 64 = search (rules, length_mapped) in
-    ordinals_all t c.loop-i.all c.loop-i.i c.loop-i.invariant.1.1 (omega arith) (omega arith)
+    let h = c.map.ensures.items in
+    let t = c.args.self.versions in
+    let l : length t ≡ 64 = search (rules, length_mapped) in
+    same_lists _ _ (h.long ∙ sym l ∙ sym (length-map t ordinal_of)) (λ i d k.
+    let v : Version = record { ordinal = d; stamp = record { 0 = 0 }; value = pos 0 } in
+    let s = h.at i v d (omega (arith, h.long)) in
+    let e : get_or c.map.result i d ≡ ordinal_of (get_or t i v) = search (rules, s.2) in
+    e ∙ sym (get_or-map ordinal_of t i v))

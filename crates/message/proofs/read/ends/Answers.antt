@@ -1,5 +1,5 @@
 -- `ends` meets its contract: a newline stands within the line.
-use native.Mathlib.Omega.{arith}
+use Rattle.std.proofs.Common.{arith}
 use borrow.Author.Tests.{eq-eqb, ne_eqb}
 use Rattle.decimal.proofs.Steps.{byte_within}
 use Rattle.message.specs.Read.{ends_at}
@@ -14,6 +14,6 @@ pub returns-then-byte_at-eq-NEWLINE : goal.returns-then-byte_at-eq-NEWLINE
 unfolding ends_at
 returns-then-byte_at-eq-NEWLINE c = let b = c.byte_at in rw (← b.ensures, eq-eqb b.result 10 c.if-byte_at-eq-NEWLINE.true)
 
-pub returns : goal.returns
+pub returns-else-byte_at-eq-NEWLINE : goal.returns-else-byte_at-eq-NEWLINE
 unfolding ends_at
-returns c = let b = c.byte_at in rw (← b.ensures, ne_eqb b.result 10 c.if-byte_at-eq-NEWLINE.false)
+returns-else-byte_at-eq-NEWLINE c = let b = c.byte_at in rw (← b.ensures, ne_eqb b.result 10 c.if-byte_at-eq-NEWLINE.false)

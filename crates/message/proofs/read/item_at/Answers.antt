@@ -1,32 +1,43 @@
 -- `item_at` meets its contract: each answer is one step of `item_at`.
-use native.Mathlib.Omega.{arith}
+use Rattle.std.proofs.Common.{arith, refl}
 use mir.Facts.{to_z-of_z}
+use Rattle.decimal.specs.Read.{on_number}
 use Rattle.decimal.proofs.Tabs.{natural_small}
-use Rattle.message.proofs.Steps.{value-fits, item_no_key, item_no_ordinal, item_no_value, item_goes}
+use Rattle.message.specs.Read.{item_at, on_value}
+use Rattle.message.proofs.Steps.{value-fits}
 use Rattle.message.proofs.read.item_at.Goals as goal
 
-pub returns-in_default : goal.returns-in_default
-returns-in_default c = item_no_key _ _ c.natural_behind_tab.ensures c.in_default.is
+pub returns-in_err-key : goal.returns-in_err-key
+unfolding item_at on_number
+returns-in_err-key c =
+    let key = rw c.from.ensures at c.in_err-key.ensures in
+    rw (← key) c.from_residual.ensures
 
-pub returns-in_default-natural_behind_tab : goal.returns-in_default-natural_behind_tab
-returns-in_default-natural_behind_tab c =
-    item_no_ordinal _ _ c.natural_behind_tab.ensures c.in-Number.is c.natural_behind_tab-2.ensures c.in_default-natural_behind_tab.is
+pub returns-in_err-ordinal : goal.returns-in_err-ordinal
+unfolding item_at on_number
+returns-in_err-ordinal c =
+    let key = rw c.from.ensures at c.in_ok-key.ensures in
+    rw (← key, ← c.in_err-ordinal.ensures) c.from_residual-in_err-ordinal.ensures
 
-pub returns-in_default-signed_behind_tab : goal.returns-in_default-signed_behind_tab
-returns-in_default-signed_behind_tab c =
-    item_no_value _ _ c.natural_behind_tab.ensures c.in-Number.is c.natural_behind_tab-2.ensures c.in-Number-natural_behind_tab.is c.signed_behind_tab.ensures c.in_default-signed_behind_tab.is
+pub returns-in_err-value : goal.returns-in_err-value
+unfolding item_at on_number on_value
+returns-in_err-value c =
+    let key = rw c.from.ensures at c.in_ok-key.ensures in
+    rw (← key, ← c.in_ok-ordinal.ensures, ← c.in_err-value.ensures) c.from_residual-in_err-value.ensures
 
-pub overflow_cast-result : goal.overflow_cast-result
-overflow_cast-result c =
-    let h = natural_small _ _ 0 63 c.natural_behind_tab.ensures c.in-Number.is in
+pub overflow_cast-item : goal.overflow_cast-item
+overflow_cast-item c =
+    let key = rw c.from.ensures at c.in_ok-key.ensures in
+    let h = natural_small _ _ 0 63 key refl in
     omega arith
 
-pub overflow_cast-result-2 : goal.overflow_cast-result-2
-overflow_cast-result-2 c =
-    let h = natural_small _ _ 1 4096 c.natural_behind_tab-2.ensures c.in-Number-natural_behind_tab.is in
+pub overflow_cast-item-2 : goal.overflow_cast-item-2
+overflow_cast-item-2 c =
+    let h = natural_small _ _ 1 4096 c.in_ok-ordinal.ensures refl in
     omega arith
 
 pub returns : goal.returns
+unfolding item_at on_number on_value
 returns c =
-    rw (to_z-of_z (value-fits _ _ c.signed_behind_tab.ensures c.in-Number-signed_behind_tab.is))
-    (item_goes _ _ c.natural_behind_tab.ensures c.in-Number.is c.natural_behind_tab-2.ensures c.in-Number-natural_behind_tab.is c.signed_behind_tab.ensures c.in-Number-signed_behind_tab.is)
+    let key = rw c.from.ensures at c.in_ok-key.ensures in
+    rw (← key, ← c.in_ok-ordinal.ensures, ← c.in_ok-value.ensures, to_z-of_z (value-fits _ _ c.in_ok-value.ensures refl))

@@ -1,15 +1,21 @@
 -- `write_message` meets its contract: the line as it stands in the local text is put at the front of the room.
-use Rattle.decimal.proofs.Putting.{puts_front, puts_taken, handed_whole, handed_full}
-use Rattle.message.specs.Write.{text_reply, bytes, refused}
+use Rattle.std.proofs.Common.{length, ap, ◌∙◌, arith, rules}
+use Rattle.lists.proofs.Length.{length_mapped, front-size}
+use Rattle.decimal.specs.Write.{put}
+use Rattle.message.specs.Line.{message_text}
+use Rattle.message.specs.Write.{message_reply}
+use Rattle.message.proofs.Putting.{handed}
 use Rattle.message.proofs.write.write_message.Goals as goal
 
-pub slice_bounds-put_text-end : goal.slice_bounds-put_text-end
-slice_bounds-put_text-end c = puts_taken c.put_line-end.ensures.0
-
-pub returns-in_default : goal.returns-in_default
-unfolding text_reply
-returns-in_default c = record { reply = (handed_full bytes (refused 17) _ _ (rw (puts_front c.put_line-end.ensures.0) at c.put_text.ensures.reply, rw (puts_front c.put_line-end.ensures.0) at c.put_text.ensures.buffer) c.in_default.is).0; buffer = (handed_full bytes (refused 17) _ _ (rw (puts_front c.put_line-end.ensures.0) at c.put_text.ensures.reply, rw (puts_front c.put_line-end.ensures.0) at c.put_text.ensures.buffer) c.in_default.is).1 }
+pub of-line-requires : goal.of-line-requires
+of-line-requires c =
+    let b = c.args.batch in
+    omega (arith, front-size b.count b.items 16 (search (rules, length_mapped)), ap length c.items.ensures)
 
 pub returns : goal.returns
-unfolding text_reply
-returns c = record { reply = (handed_whole bytes (refused 17) _ _ (rw (puts_front c.put_line-end.ensures.0) at c.put_text.ensures.reply, rw (puts_front c.put_line-end.ensures.0) at c.put_text.ensures.buffer) c.in-Next.is).0; buffer = (handed_whole bytes (refused 17) _ _ (rw (puts_front c.put_line-end.ensures.0) at c.put_text.ensures.reply, rw (puts_front c.put_line-end.ensures.0) at c.put_text.ensures.buffer) c.in-Next.is).1 }
+returns c =
+    let line = c.text.ensures ∙ c.of-line.ensures ∙ ap (message_text c.args.stamp.0) c.items.ensures in
+    record {
+      reply = ap message_reply c.ok_or.ensures.value ∙ handed _ _ c.put_text.ensures.reply line;
+      buffer = c.put_text.ensures.buffer ∙ ap (put c.args.room.now 0) line;
+    }

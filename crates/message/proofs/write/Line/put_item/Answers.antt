@@ -1,27 +1,26 @@
 -- `put_item` meets its contract: three fields, and room for any numbers in them.
-use Prim.Native.Nat.{◌<◌}
+use Rattle.std.proofs.Common.{◌<◌, rules}
 use mir.Facts.{to_z-of_z}
 use mir.Syntax.{w32}
 use mir.Val.{SFits}
 use Rattle.message.proofs.Putting.{key-room, ordinal-room, value_room, item-put}
-use borrow.Author.Rules.{rules}
-use Rattle.message.proofs.write.put_item.Goals as goal
+use Rattle.message.proofs.write.Line.put_item.Goals as goal
 
-pub put_field-a-requires : goal.put_field-a-requires
-put_field-a-requires c =
+pub put_field-requires : goal.put_field-requires
+put_field-requires c =
     let i = c.args.item in
     let k : i.key < 256 = search rules in
     let o : i.ordinal.0 < 4294967296 = search rules in
     let v : SFits w32 i.value = search rules in
-    key-room c.args.text.now _ i c.requires k o v
+    rw c.from.ensures (key-room _ i c.requires k o v)
 
-pub put_field-b-requires : goal.put_field-b-requires
-put_field-b-requires c =
+pub put_field-requires-2 : goal.put_field-requires-2
+put_field-requires-2 c =
     let i = c.args.item in
     let k : i.key < 256 = search rules in
     let o : i.ordinal.0 < 4294967296 = search rules in
     let v : SFits w32 i.value = search rules in
-    ordinal-room _ _ i c.requires k o v c.put_field-a.ensures
+    rw c.from-2.ensures (ordinal-room _ i c.requires k o v (rw c.from.ensures at c.put_field.ensures))
 
 pub put_value-requires : goal.put_value-requires
 put_value-requires c =
@@ -29,7 +28,7 @@ put_value-requires c =
     let k : i.key < 256 = search rules in
     let o : i.ordinal.0 < 4294967296 = search rules in
     let v : SFits w32 i.value = search rules in
-    rw (to_z-of_z v) (value_room _ _ i c.requires k o v c.put_field-a.ensures c.put_field-b.ensures)
+    rw (to_z-of_z v) (value_room _ i c.requires k o v (rw c.from.ensures at c.put_field.ensures) (rw c.from-2.ensures at c.put_field-2.ensures))
 
 pub returns : goal.returns
 returns c =
@@ -37,4 +36,5 @@ returns c =
     let k : i.key < 256 = search rules in
     let o : i.ordinal.0 < 4294967296 = search rules in
     let v : SFits w32 i.value = search rules in
-    item-put _ _ i c.requires k o v c.put_field-a.ensures c.put_field-b.ensures (rw (to_z-of_z v) at c.put_value.ensures)
+    let p = item-put _ i c.requires k o v (rw c.from.ensures at c.put_field.ensures) (rw c.from-2.ensures at c.put_field-2.ensures) (rw (to_z-of_z v) at c.put_value.ensures) in
+    record { text = p.0; long = p.1 }
