@@ -1,3 +1,2 @@
-pub mod Exits
 pub mod Frames
 pub mod Laws

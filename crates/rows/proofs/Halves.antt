@@ -1,25 +1,24 @@
 -- A key's bit stands in one half of the word: the low one where the key is below 32, else the high one.
 use Prim.Native.Nat.{ℕ, zero, suc, ◌+◌, ◌-◌, ◌/◌, ◌%◌, ◌^◌, ◌≤◌, ◌<◌}
 use native.Mathlib.Omega.{arith}
+use native.Mathlib.Numerals.{add-one}
+use Rattle.std.specs.Int.{from_bool}
 use mathlib.Core.Path.{◌≡◌, refl, sym, ◌∙◌, ap}
 use mathlib.Core.Bool.{Bool, true, false, cond, ◌&&◌}
 use mathlib.Core.List.{List, [], ◌∷◌}
 use lib.Dec.{eqb, leb, ltb}
 use lib.ListN.{get_or}
 use lib.Pow.{field, mod-mod-pow, shr-shr}
-use borrow.Author.Tests.{ltb-true, ltb-false}
+use borrow.Author.Tests.{ltb-true, ltb-false, leb-true, leb-false, lt-ltb, le-ltb}
+use Rattle.lists.proofs.Count.{count_same}
+use Rattle.lists.proofs.Every.{every_each}
 use Rattle.lists.specs.Lists.{count, bit}
-use Rattle.records.specs.Ledger.{has, made_between, meets, overtakes, rows_between}
+use Rattle.records.specs.Ledger.{has, made_between, rows_between}
 use Rattle.records.specs.declared.Row.{Row}
 use Rattle.book.specs.Layout.{lows_from, highs_from}
 use Rattle.book.specs.Book.{key_word, row_at, rows_of, rows_in, row_count}
 use Rattle.rows.specs.Table.{half_from, made_within, rows_within}
 use Rattle.rows.proofs.Words.{has_past}
-
--- the word out of its halves is the row's
-pub overtakes_word : (ws : List ℕ) (i w n line : ℕ) (r : Row) → w ≡ (row_at ws i).keys
-    → n ≡ bit (ltb r.start (row_at ws i).end && (ltb (row_at ws i).end line && meets w r.keys)) → n ≡ bit (overtakes line r (row_at ws i))
-overtakes_word ws i w n line r e f = rw (← e) f
 
 -- a digit below 2 ^ 32 is one of the remainder by it
 digit_mod : (w x : ℕ) → x < 32 → w / 2 ^ x % 2 ≡ w % 4294967296 % 2 ^ (1 + x) / 2 ^ x
@@ -67,13 +66,20 @@ module _ (ws : List ℕ) (x : ℕ) where
           let s : x ≡ 32 + x % 32 = omega (arith, ltb-false x 32 e) in
           ap (has (row_at ws i).keys) s ∙ has_high (get_or ws (lows_from + i) 0) (get_or ws (highs_from + i) 0) (x % 32) (omega arith)
 
-  -- what one row adds to a count, by its half
-  module _ (i half n after until : ℕ) (h : x < 64) (e : half ≡ half_from x) where
-    pub within_half : n ≡ bit (has (get_or ws (half + i) 0) (x % 32) && (ltb after (row_at ws i).end && leb (row_at ws i).end until)) → n ≡ bit (made_within x after until (row_at ws i))
-    within_half f = rw (half_has i h, ← e) f
+  -- what one row more adds to a count, by its half
+  pub within_more : (i half n after until : ℕ) (b : Bool) → x < 64 → half ≡ half_from x → (n ≤ i) × (n ≡ count (made_within x after until) (rows_of ws i))
+      → b ≡ (has (get_or ws (half + i) 0) (x % 32) && (ltb after (row_at ws i).end && leb (row_at ws i).end until))
+      → (n + from_bool b ≤ i + 1) × (n + from_bool b ≡ count (made_within x after until) (rows_of ws (i + 1)))
+  unfolding rows_of count
+  within_more i half n after until b h e f g = (one b, rw (add-one i, half_has i h, ← e, ← g, ← f.1) (more b))
+    where
+      one : (b : Bool) → n + from_bool b ≤ i + 1
+      one true = omega (arith, f.0)
+      one false = omega (arith, f.0)
 
-    pub between_half : n ≡ bit (has (get_or ws (half + i) 0) (x % 32) && (ltb after (row_at ws i).end && ltb (row_at ws i).end until)) → n ≡ bit (made_between x after until (row_at ws i))
-    between_half f = rw (half_has i h, ← e) f
+      more : (b : Bool) → n + from_bool b ≡ cond b (suc n) n
+      more true = omega arith
+      more false = omega arith
 
   -- no row has a key past 63
   pub none_has : (p : Row → Bool) → 64 ≤ x → (n : ℕ) → 0 ≡ count (λ (r : Row). has r.keys x && p r) (rows_of ws n)
@@ -99,7 +105,21 @@ never a e from before h = go a (ltb from e) refl (ltb e before) refl
     go true false p c q = refl
     go false b p c q = refl
 
-pub between-empty : (rows : List Row) (x from before : ℕ) → before ≤ from → 0 ≡ rows_between rows x from before
+pub between_empty : (rows : List Row) (x from before : ℕ) → before ≤ from → 0 ≡ rows_between rows x from before
 unfolding rows_between count
-between-empty [] x from before h = refl
-between-empty (r ∷ rs) x from before h = rw (never (has r.keys x) r.end from before h) (between-empty rs x from before h)
+between_empty [] x from before h = refl
+between_empty (r ∷ rs) x from before h = rw (never (has r.keys x) r.end from before h) (between_empty rs x from before h)
+
+-- the lines strictly before one are those at or before the line in front of it
+last_line : (a b : Bool) (e before : ℕ) → 0 < before → (a && (b && leb e (before - 1))) ≡ (a && (b && ltb e before))
+last_line a b e before h = go (leb e (before - 1)) refl
+  where
+    go : (c : Bool) → leb e (before - 1) ≡ c → (a && (b && c)) ≡ (a && (b && ltb e before))
+    go true f = rw (lt-ltb e before (omega (arith, leb-true e (before - 1) f)))
+    go false f = rw (le-ltb e before (omega (arith, leb-false e (before - 1) f)))
+
+pub between_last : (rows : List Row) (x from before : ℕ) → from < before → rows_within rows x from (before - 1) ≡ rows_between rows x from before
+unfolding rows_within rows_between
+between_last rows x from before h =
+    count_same (made_within x from (before - 1)) (made_between x from before)
+    (every_each (λ r. last_line (has r.keys x) (ltb from r.end) r.end before (omega arith)) rows)

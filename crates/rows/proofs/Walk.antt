@@ -7,6 +7,9 @@ use mathlib.Core.List.{List, [], ◌∷◌}
 use lib.Dec.{ltb}
 use lib.ListN.{length, get_or}
 use borrow.Author.Tests.{lt-ltb, eq-eqb, ne_eqb}
+use Rattle.std.proofs.Math.Bool.{or_comm, or_assoc}
+use Rattle.std.proofs.Math.Nat.{zero-add, add-zero}
+use Rattle.std.specs.List.{list_any, range_with_len}
 use Rattle.lists.specs.Lists.{any}
 use Rattle.records.specs.Ledger.{row_of, named}
 use Rattle.records.specs.declared.Row.{Row}
@@ -33,6 +36,11 @@ any-named (r ∷ rs) x = go (named x r) (any-named rs x)
     go : (b : Bool) → any (named x) rs ≡ ltb 0 (row_number rs x) → (b || any (named x) rs) ≡ ltb 0 (cond b (suc (length rs)) (row_number rs x))
     go true h = sym (lt-ltb 0 (suc (length rs)) (omega arith))
     go false h = h
+
+-- whether a test holds of one of the first numbers, and of one more
+any_more : (q : ℕ → Bool) (a n : ℕ) → list_any q (range_with_len a (suc n)) ≡ (list_any q (range_with_len a n) || q (a + n))
+any_more q a zero = rw (add-zero a) (or_comm (q a) false)
+any_more q a (suc n) = let e : a + 1 + n ≡ a + suc n = omega arith in rw (any_more q (a + 1) n, e) (sym (or_assoc (q a) (list_any q (range_with_len (a + 1) n)) (q (a + suc n))))
 
 module _ (ws : List ℕ) where
   rows_back : (i : ℕ) → 0 < i → rows_of ws i ≡ row_at ws (i - 1) ∷ rows_of ws (i - 1)
@@ -71,3 +79,13 @@ module _ (ws : List ℕ) where
 
     pub row-of : row_of (rows_in ws) x ≡ row_loaded ws (row_number (rows_in ws) x)
     row-of = row_of_first (row_count ws) (omega arith)
+
+    -- by a name that src/lib.rt can say
+    pub newest_row : row_of (rows_in ws) x ≡ row_loaded ws (row_number (rows_in ws) x)
+    newest_row = row-of
+
+  -- whether a row passes, by its place
+  pub any_rows : (p : Row → Bool) (n : ℕ) → list_any (λ i. p (row_at ws i)) (range_with_len 0 n) ≡ any p (rows_of ws n)
+  unfolding any rows_of
+  any_rows p zero = refl
+  any_rows p (suc n) = rw (any_more (λ (i : ℕ). p (row_at ws i)) 0 n, zero-add n, any_rows p n) (or_comm (any p (rows_of ws n)) (p (row_at ws n)))

@@ -1,10 +1,9 @@
 // The rows of the transactions started, in the judge's memory: the newest of a name, the versions of a key between two lines, and what WC asks.
 #![tactic(auto)]
 
-ghost use Rattle.std.specs.Prelude.{◌<◌, ◌&&◌, cond, ◌≡◌, leb, ltb};
+ghost use Rattle.std.specs.Prelude.{◌<◌, ◌≡◌, ◌&&◌, leb, ltb};
 ghost use Rattle.lists.specs.Lists.{any};
-ghost use Rattle.lists.specs.Lists.{bit as one};
-ghost use Rattle.records.specs.Ledger.{has, meets, nowhere, overtakes, resolved, rows_between};
+ghost use Rattle.records.specs.Ledger.{has, overtakes, resolved, rows_between};
 ghost use Rattle.book.specs.Book.{rows_in};
 ghost use Rattle.rows.specs.Table.{row_number, rows_within, half_from};
 
@@ -12,33 +11,24 @@ use book::{ENDS, HIGHS, LOWS, NAMES, WORDS, keys_of};
 use records::{NOWHERE, Row};
 
 // The newest row of a name, by its number from 1; 0 where there is none.
+#[tactic(auto, using(crate::proofs::Walk::place_over, crate::proofs::Walk::place_hit, crate::proofs::Walk::place_miss))]
 pub fn find(memory: &[u32; WORDS], name: u32) -> usize
     ensures { result ≡ row_number (rows_in memory.now) name }
 {
-    let mut i = book::rows(memory);
-    while 0 < i {
-        if memory[NAMES + (i - 1)] == name {
-            return i;
+    for i in (0..book::rows(memory)).rev() {
+        if memory[NAMES + i] == name {
+            return i + 1;
         }
-        i -= 1;
     }
     0
 }
 
 // A word has a bit for each of the 64 keys.
+#[tactic(auto, using(crate::proofs::Words::has_past))]
 pub fn has(word: u64, key: u32) -> bool
     ensures { result ≡ has word key }
 {
-    one_if_has(word, key) == 1
-}
-
-fn one_if_has(word: u64, key: u32) -> u32
-    ensures { result ≡ one (has word key) }
-{
-    if key < 64 {
-        return ((word >> key) % 2) as u32;
-    }
-    0
+    key < 64 && (word >> key) % 2 == 1
 }
 
 // The versions of a key in two spans of lines.
@@ -48,8 +38,9 @@ pub struct Counted {
     pub between: u32,
 }
 
-// The versions of a key committed after one line and at or before another, and those committed strictly between two lines: both by one walk. Where no
-// line is between the two, the second is not looked for.
+// The versions of a key committed after one line and at or before another, and those committed strictly between two lines. Where no line is
+// between the two, the second are not looked for.
+#[tactic(auto, using(crate::proofs::Halves::within_past, crate::proofs::Halves::between_past, crate::proofs::Halves::between_empty, crate::proofs::Halves::between_last))]
 pub fn count_both(
     memory: &[u32; WORDS],
     key: u32,
@@ -67,136 +58,60 @@ pub fn count_both(
             between: 0,
         };
     }
-    if before <= from {
-        let n = count_within(memory, key, after, until);
-        return Counted {
-            within: n,
-            between: 0,
-        };
-    }
-    count_two(memory, key, after, until, from, before)
+    let within = count_within(memory, key, after, until);
+    let between = if from < before {
+        count_within(memory, key, from, before - 1)
+    } else {
+        0
+    };
+    Counted { within, between }
 }
 
-// Where the half of the word that has a key begins.
-fn half_of(key: u32) -> usize
-    ensures { result ≡ half_from key }
-{
-    if key < 32 {
-        return LOWS;
-    }
-    HIGHS
-}
-
+// The judge's hot loop. A key's bit stands in one half of a row's word.
+#[tactic(auto, using(crate::proofs::Halves::half_le), unfolding(crate::specs::Table::rows_within, book::specs::Book::rows_of, lists::specs::Lists::count))]
 fn count_within(memory: &[u32; WORDS], key: u32, after: u32, until: u32) -> u32
     requires { key < 64 }
     ensures { result ≡ rows_within (rows_in memory.now) key after until }
 {
     let half = half_of(key);
     let bit = key % 32;
-    let end = book::rows(memory);
-    let mut n: u32 = 0;
-    let mut i = 0;
-    while i < end {
-        n += one_if_within(memory[half + i], memory[ENDS + i], bit, after, until);
-        i += 1;
+    let mut n = 0;
+    for i in 0..book::rows(memory) {
+        n += u32::from(is_within(memory[half + i], bit, memory[ENDS + i], after, until));
     }
     n
 }
 
-// The judge's hot loop.
-fn count_two(
-    memory: &[u32; WORDS],
-    key: u32,
-    after: u32,
-    until: u32,
-    from: u32,
-    before: u32,
-) -> Counted
-    requires { key < 64 }
-    ensures within { result.within ≡ rows_within (rows_in memory.now) key after until }
-    ensures between { result.between ≡ rows_between (rows_in memory.now) key from before }
+// A row with the key whose commit line is after one line and at or before another. The lines are asked first, since few rows are within them.
+fn is_within(half: u32, bit: u32, end: u32, after: u32, until: u32) -> bool
+    requires { bit < 32 }
+    ensures { result ≡ (has half bit && (ltb after end && leb end until)) }
 {
-    let half = half_of(key);
-    let bit = key % 32;
-    let end = book::rows(memory);
-    let mut n: u32 = 0;
-    let mut m: u32 = 0;
-    let mut i = 0;
-    while i < end {
-        n += one_if_within(memory[half + i], memory[ENDS + i], bit, after, until);
-        m += one_if_between(memory[half + i], memory[ENDS + i], bit, from, before);
-        i += 1;
-    }
-    Counted {
-        within: n,
-        between: m,
-    }
+    after < end && end <= until && (half >> bit) % 2 == 1
 }
 
-fn one_if_within(half: u32, end: u32, bit: u32, after: u32, until: u32) -> u32
-    ensures { result ≡ one (has half bit && (ltb after end && leb end until)) }
+// Where the half of the word that has a key begins.
+#[tactic(auto, unfolding(crate::specs::Table::half_from))]
+fn half_of(key: u32) -> usize
+    ensures { result ≡ half_from key }
 {
-    if end <= after {
-        return 0;
-    }
-    if until < end {
-        return 0;
-    }
-    one_if_bit(half, bit)
-}
-
-fn one_if_between(half: u32, end: u32, bit: u32, from: u32, before: u32) -> u32
-    ensures { result ≡ one (has half bit && (ltb from end && ltb end before)) }
-{
-    if end <= from {
-        return 0;
-    }
-    if before <= end {
-        return 0;
-    }
-    one_if_bit(half, bit)
-}
-
-fn one_if_bit(half: u32, bit: u32) -> u32
-    ensures { result ≡ one (has half bit) }
-{
-    if bit < 32 {
-        return (half >> bit) % 2;
-    }
-    0
+    if key < 32 { LOWS } else { HIGHS }
 }
 
 // Whether some row breaks WC for the row's own commit at a line.
 pub fn overtaken(memory: &[u32; WORDS], line: u32, row: Row) -> bool
     ensures { result ≡ any (overtakes line row) (rows_in memory.now) }
 {
-    let end = book::rows(memory);
-    let mut n: u32 = 0;
-    let mut i = 0;
-    while i < end {
-        let word = keys_of(memory[LOWS + i], memory[HIGHS + i]);
-        n += one_if_overtakes(word, memory[ENDS + i], line, row);
-        i += 1;
-    }
-    0 < n
-}
-
-fn one_if_overtakes(word: u64, end: u32, line: u32, row: Row) -> u32
-    ensures { result ≡ one (ltb row.start end && (ltb end line && meets word row.keys)) }
-{
-    if end <= row.start {
-        return 0;
-    }
-    if line <= end {
-        return 0;
-    }
-    if word & row.keys == 0 {
-        return 0;
-    }
-    1
+    (0..book::rows(memory)).any(|i| {
+        let end = memory[ENDS + i];
+        row.start < end
+            && end < line
+            && keys_of(memory[LOWS + i], memory[HIGHS + i]) & row.keys != 0
+    })
 }
 
 // The line of W's commit where W committed and wrote the key, 0 for the start version, else NOWHERE.
+#[tactic(auto, using(crate::proofs::Walk::newest_row), unfolding(records::specs::Ledger::resolved))]
 pub fn resolve(memory: &[u32; WORDS], w: u32, key: u8) -> u32
     ensures { result ≡ resolved (rows_in memory.now) w key }
 {
@@ -204,20 +119,9 @@ pub fn resolve(memory: &[u32; WORDS], w: u32, key: u8) -> u32
         return 0;
     }
     let row = book::load_row(memory, find(memory, w));
-    version_line(row.keys, row.end, key as u32)
-}
-
-fn version_line(word: u64, end: u32, key: u32) -> u32
-    ensures { result ≡ cond (has word key && (ltb 0 end && ltb end nowhere)) end nowhere }
-{
-    if has(word, key) {
-        if end == 0 {
-            return NOWHERE;
-        }
-        if NOWHERE <= end {
-            return NOWHERE;
-        }
-        return end;
+    if has(row.keys, u32::from(key)) && 0 < row.end && row.end < NOWHERE {
+        row.end
+    } else {
+        NOWHERE
     }
-    NOWHERE
 }

@@ -1,25 +1,6 @@
--- `count_within` meets its contract: what was walked is counted.
-use native.Mathlib.Numerals.{add-one}
-use native.Mathlib.Omega.{arith}
-use mathlib.Core.Path.{◌≡◌, refl}
-use Rattle.lists.specs.Lists as lists
-use Rattle.book.specs.Book.{rows_of, row_count}
-use Rattle.rows.specs.Table.{rows_within}
-use Rattle.lists.proofs.Count.{bit_le, count-more}
-use Rattle.rows.proofs.Halves.{half_le, within_half}
+-- A row more is counted by its half.
+use Rattle.rows.proofs.Halves.{within_more}
 use Rattle.rows.proofs.count_within.Goals as goal
 
-pub loop-i-init : goal.loop-i-init
-unfolding rows_of lists.count
-loop-i-init c = (omega arith, (c.rows-end.ensures, (c.half_of-half.ensures, (half_le _ _ c.half_of-half.ensures, (omega arith, refl)))))
-
-pub overflow_add-n : goal.overflow_add-n
-overflow_add-n c = omega (arith, bit_le _ _ c.one_if_within-n.ensures)
-
 pub loop-i-preserved : goal.loop-i-preserved
-unfolding rows_of
-loop-i-preserved c = (omega arith, (c.loop-i.invariant.1.0, (c.loop-i.invariant.1.1.0, (c.loop-i.invariant.1.1.1.0, (omega (arith, bit_le _ _ c.one_if_within-n.ensures), rw (add-one c.loop-i.i) (count-more _ _ _ _ _ c.loop-i.invariant.1.1.1.1.1 (within_half c.args.memory.now c.args.key c.loop-i.i _ _ c.args.after c.args.until c.requires c.loop-i.invariant.1.1.0 c.one_if_within-n.ensures)))))))
-
-pub returns : goal.returns
-unfolding rows_within
-returns c = let e : c.loop-i.i ≡ row_count c.args.memory.now = omega arith in rw (← e) c.loop-i.invariant.1.1.1.1.1
+loop-i-preserved c = rw c.from-n.ensures (within_more _ _ _ _ _ _ _ _ c.requires c.half_of-half.ensures c.loop-i.invariant c.is_within.ensures)

@@ -1,13 +1,9 @@
--- `count_within` meets its contract: what was walked is counted.
-use Prim.Native.Nat.{◌≤◌, ◌-◌}
-use mathlib.Core.Path.{◌≡◌}
+-- What was walked is counted.
+use Rattle.std.proofs.Common.{◌≡◌, ◌≤◌}
 use Rattle.lists.specs.Lists as lists
-use Rattle.book.specs.Book.{rows_of, row_count}
-use Rattle.rows.specs.Table.{made_within, half_from}
+use Rattle.book.specs.Book.{rows_of}
+use Rattle.rows.specs.Table.{made_within}
 use Rattle.rows.proofs.count_within.Given as goal
 
 abbrev pub invariant-loop-i : goal.invariant-loop-i
-invariant-loop-i l = (l.i ≤ l.end) × ((l.end ≡ row_count l.memory) × ((l.half ≡ half_from l.key) × ((l.half ≤ 2051) × ((l.n ≤ l.i) × (l.n ≡ lists.count (made_within l.key l.after l.until) (rows_of l.memory l.i))))))
-
-abbrev pub decreases-loop-i : goal.decreases-loop-i
-decreases-loop-i l = l.end - l.i
+invariant-loop-i l = (l.n ≤ l.i) × (l.n ≡ lists.count (made_within l.key l.after l.until) (rows_of l.memory l.i))
