@@ -1,6 +1,7 @@
 -- What a record at a line does to the judge's memory, exactly: the reply, and every word.
-use Rattle.std.specs.Prelude.{ℕ, ◌-◌, ◌%◌, ◌<◌, cond, List, [], ◌∷◌}
+use Rattle.std.specs.Prelude.{ℕ, ◌-◌, ◌%◌, ◌<◌, cond, List, [], ◌∷◌, Result, Ok, Err}
 use Rattle.units.specs.Refusal.{number_of}
+use Rattle.units.specs.declared.refusal.Refusal.{Refusal}
 use Rattle.records.specs.Parts.{parts_of, name_of, starts, is_writing}
 use Rattle.records.specs.Ledger.{Outcome, refused, went, row_of, fresh_row, changed, noted, concluded, line_step}
 use Rattle.records.specs.declared.Record.{Record}
@@ -10,8 +11,6 @@ use Rattle.records.specs.declared.Seen.{Seen}
 use Rattle.records.specs.declared.Judged.{Judged}
 use Rattle.book.specs.Book.{ledger_of, rows_in, seens_in, read_count, row_added, row_stored, seen_added, judged_added}
 use Rattle.rows.specs.Table.{row_number}
-use Rattle.ledger.specs.declared.Taken.{Taken}
-use Rattle.ledger.specs.declared.Taken.TheVariants.{Refused, Went}
 
 -- "Keys are 0 to 63": a written key past them, which no history has, is taken by its remainder, so that it has a bit in the word
 abbrev pub tidy : Record → Record
@@ -22,9 +21,9 @@ pub data TakeReply : Type 0 where
   refused_with : (number : ℕ) → TakeReply
   went_on : TakeReply
 
-abbrev pub taken_reply : Taken → TakeReply
-taken_reply (Refused f) = refused_with (number_of f)
-taken_reply Went = went_on
+abbrev pub taken_reply : Result (Unit {0}) Refusal → TakeReply
+taken_reply (Err f) = refused_with (number_of f)
+taken_reply (Ok u) = went_on
 
 -- what a step of the meaning answers
 abbrev pub reply_to : Outcome → TakeReply

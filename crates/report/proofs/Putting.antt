@@ -6,8 +6,7 @@ use mathlib.Core.List.{List, [], ◌∷◌, ◌++◌}
 use lib.ListN.{length}
 use Rattle.decimal.specs.Text.{decimal}
 use Rattle.decimal.specs.Write.{put, wrote, Puts}
-use Rattle.decimal.specs.declared.write.Put.{Put}
-use Rattle.decimal.specs.declared.write.Put.TheVariants.{Next, Full}
+use Rattle.std.specs.Prelude.{Option, Some, None}
 use Rattle.decimal.proofs.Putting.{puts_one, puts_next, puts_full, puts_length, puts_then}
 use Rattle.decimal.proofs.Digits.{decimal_64}
 
@@ -21,11 +20,11 @@ module _ (b : List ℕ) (at : ℕ) (s : List ℕ) {c d : List ℕ} (then : ℕ) 
 
 -- ---- a number, and the byte behind it
 
-module _ (b : List ℕ) (at n : ℕ) (room : at + 21 ≤ length b) (small : n < 18446744073709551616) {c : List ℕ} {w : Put} (p : (w ≡ wrote b at (decimal n)) × (c ≡ put b at (decimal n))) where
-  pub number-full : w ≡ Full → ⊥
+module _ (b : List ℕ) (at n : ℕ) (room : at + 21 ≤ length b) (small : n < 18446744073709551616) {c : List ℕ} {w : Option ℕ} (p : (w ≡ wrote b at (decimal n)) × (c ≡ put b at (decimal n))) where
+  pub number-full : w ≡ None → ⊥
   number-full q = puts_full b at (decimal n) p.0 (omega (arith, decimal_64 n small)) q
 
-  module _ {e : ℕ} (q : w ≡ Next e) where
+  module _ {e : ℕ} (q : w ≡ Some e) where
     digits : Puts b c at (decimal n) e
     digits = puts_next b at (decimal n) p.0 p.1 q
 

@@ -10,16 +10,9 @@ ghost use Rattle.report.specs.Report.{verdict_word, head_line, verdict_line, ver
 ghost use Rattle.report.specs.Write.{written_reply, written_as};
 
 use book::{JUDGED_CODES, JUDGED_NAMES, WORDS};
-use decimal::{NEWLINE, Put, put_byte, put_natural, put_text};
+use decimal::{NEWLINE, put_byte, put_natural, put_text};
 use records::Totals;
 use units::Refusal;
-
-// The length of the text, or NoRoom where the lent room is shorter.
-#[derive(Clone, Copy)]
-pub enum Written {
-    Bytes(usize),
-    Refused(Refusal),
-}
 
 const SPACE: u8 = b' ';
 
@@ -29,8 +22,8 @@ const LONGEST: usize = 12405;
 // Room for any refusal: 8 bytes for its word, 21 for each number.
 const LONGEST_REFUSED: usize = 50;
 
-// The verdicts that stand in the judge's memory, in order of commit lines.
-pub fn write_report(room: &mut [u8], memory: &[u32; WORDS], totals: Totals) -> Written
+// The verdicts that stand in the judge's memory, in order of commit lines; the length of the text, or NoRoom where the lent room is shorter.
+pub fn write_report(room: &mut [u8], memory: &[u32; WORDS], totals: Totals) -> Result<usize, Refusal>
     ensures reply { written_reply result ≡ written_as room.old (report_text (reverse (judged_in memory.now)) totals) }
     ensures buffer { room.new ≡ put room.old 0 (report_text (reverse (judged_in memory.now)) totals) }
 {
@@ -39,8 +32,8 @@ pub fn write_report(room: &mut [u8], memory: &[u32; WORDS], totals: Totals) -> W
     hand_over(room, &text[..end])
 }
 
-// A refusal's number and its line.
-pub fn write_refused(room: &mut [u8], number: u8, line: u32) -> Written
+// A refusal's number and its line; the length of the text, or NoRoom.
+pub fn write_refused(room: &mut [u8], number: u8, line: u32) -> Result<usize, Refusal>
     ensures reply { written_reply result ≡ written_as room.old (refused_text number line) }
     ensures buffer { room.new ≡ put room.old 0 (refused_text number line) }
 {
@@ -50,14 +43,11 @@ pub fn write_refused(room: &mut [u8], number: u8, line: u32) -> Written
 }
 
 // A text at the front of the room, where it fits.
-fn hand_over(room: &mut [u8], text: &[u8]) -> Written
+fn hand_over(room: &mut [u8], text: &[u8]) -> Result<usize, Refusal>
     ensures reply { written_reply result ≡ written_as room.old text.now }
     ensures buffer { room.new ≡ put room.old 0 text.now }
 {
-    let Put::Next(n) = put_text(room, 0, text) else {
-        return Written::Refused(Refusal::NoRoom);
-    };
-    Written::Bytes(n)
+    put_text(room, 0, text).ok_or(Refusal::NoRoom)
 }
 
 fn put_report(text: &mut [u8], memory: &[u32; WORDS], totals: Totals) -> usize
@@ -103,10 +93,8 @@ fn put_verdicts(text: &mut [u8], at: usize, memory: &[u32; WORDS], n: usize) -> 
     ensures { (Puts text.old text.new at (verdict_lines (reverse (judged_of memory.now n))) result) × (result ≤ at + 12288) }
 {
     let mut to = at;
-    let mut i = 0;
-    while i < n {
+    for i in 0..n {
         to = put_verdict(text, to, memory[JUDGED_NAMES + i], memory[JUDGED_CODES + i]);
-        i += 1;
     }
     to
 }
@@ -149,7 +137,7 @@ fn put_number(text: &mut [u8], at: usize, n: u64, then: u8) -> usize
     requires { at + 21 ≤ length text.old }
     ensures { (Puts text.old text.new at (decimal n ++ (then ∷ [])) result) × (result ≤ at + 21) }
 {
-    let Put::Next(end) = put_natural(text, at, n) else {
+    let Some(end) = put_natural(text, at, n) else {
         return at;
     };
     put_byte(text, end, then);

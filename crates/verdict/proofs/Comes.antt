@@ -1,35 +1,34 @@
--- What a line comes to where it is taken into the ledger, an exit at a time.
+-- What a line comes to where its record is taken into the ledger.
 use Prim.Native.Nat.{ℕ}
-use mathlib.Core.Path.{◌≡◌, sym, ap, ◌∙◌}
-use mathlib.Core.List.{List}
+use mathlib.Core.Path.{◌≡◌, refl, ap, ◌∙◌}
+use Rattle.std.specs.Prelude.{Result, Ok, Err}
+use Rattle.std.specs.Result.{MatchResult, IsErrAnd}
+use Rattle.std.proofs.lemmas.Result.{err_from_is_err_and}
+use Rattle.units.specs.Refusal.{number_of}
 use Rattle.units.specs.declared.refusal.Refusal.{Refusal}
-use Rattle.records.specs.Ledger.{line_step}
 use Rattle.records.specs.declared.Record.{Record}
-use Rattle.book.specs.Book.{ledger_of}
-use Rattle.ledger.specs.Take.{TakeReply, taken_reply, reply_to, booked}
-use Rattle.ledger.specs.declared.Taken.{Taken}
-use Rattle.ledger.specs.declared.Taken.TheVariants as took
-use Rattle.verdict.specs.Pass.{CameReply, came_reply, on_take, after_take, words_after}
-use Rattle.verdict.specs.declared.Came.{Came}
-use Rattle.verdict.specs.declared.Came.TheVariants as came
+use Rattle.ledger.specs.Take.{taken_reply}
+use Rattle.verdict.specs.Pass.{came_record, came_refused, on_take}
+use Rattle.verdict.specs.declared.RefusedAt.{RefusedAt}
 
-module _ (ws ms : List ℕ) (n : ℕ) (e : Record) {c : Came} (r : Taken) (q : c ≡ came.Record e)
-    (w : (taken_reply r ≡ reply_to (line_step n e (ledger_of ws))) × (ms ≡ booked ws n e))
-  where
-    there : (x : CameReply) → x ≡ on_take (taken_reply r) n e → (x ≡ after_take ws n (came_reply c)) × (ms ≡ words_after ws n (came_reply c))
-    unfolding after_take words_after
-    there x h = (
-      h ∙ ap (λ (y : TakeReply). on_take y n e) w.0 ∙ ap (λ (y : Came). after_take ws n (came_reply y)) (sym q),
-      w.1 ∙ ap (λ (y : Came). words_after ws n (came_reply y)) (sym q),
-    )
+-- a refusal with its line
+abbrev pub with_line : {T : Type 0} → ℕ → Result T Refusal → Result T RefusedAt
+with_line n (Ok x) = Ok x
+with_line n (Err f) = Err (record { refusal = f; line = n })
 
-    pub line_refused : {f : Refusal} → r ≡ took.Refused f → (came_reply (came.Refused f n) ≡ after_take ws n (came_reply c)) × (ms ≡ words_after ws n (came_reply c))
-    line_refused {f} h = there (came_reply (came.Refused f n)) (ap (λ (y : Taken). on_take (taken_reply y) n e) (sym h))
+-- what `map_err` makes of an answer, by a closure that gives each refusal the line n
+pub lined : {T : Type 0} (n : ℕ) (r : Result T Refusal) (k : Result T RefusedAt) {P : Refusal → RefusedAt → Type 0}
+    → MatchResult r (λ x. k ≡ Ok x) (λ e. IsErrAnd k (P e)) → ((e : Refusal) (d : RefusedAt) → P e d → d ≡ record { refusal = e; line = n }) → k ≡ with_line n r
+lined n (Ok x) k h g = h
+lined n (Err e) k h g =
+    let p = err_from_is_err_and k h in
+    p.1 ∙ ap Err (g e p.0 p.2)
 
-    pub line_taken : r ≡ took.Went → (came_reply (came.Record e) ≡ after_take ws n (came_reply c)) × (ms ≡ words_after ws n (came_reply c))
-    line_taken h = there (came_reply (came.Record e)) (ap (λ (y : Taken). on_take (taken_reply y) n e) (sym h))
+-- the record stands, or it is refused with its line
+pub took : (n : ℕ) (e : Record) (r : Result (Unit {0}) Refusal) {u : Unit {0}} → Ok u ≡ with_line n r → came_record e ≡ on_take (taken_reply r) n e
+took n e (Ok v) q = refl
+took n e (Err f) q = cc
 
--- what is no record stays what it is
-pub line_same : (ws : List ℕ) (n : ℕ) {c d : Came} → c ≡ d → came_reply d ≡ after_take ws n (came_reply d) → ws ≡ words_after ws n (came_reply d)
-    → (came_reply d ≡ after_take ws n (came_reply c)) × (ws ≡ words_after ws n (came_reply c))
-line_same ws n q a b = (a ∙ ap (λ (y : Came). after_take ws n (came_reply y)) (sym q), b ∙ ap (λ (y : Came). words_after ws n (came_reply y)) (sym q))
+pub stopped : (n : ℕ) (e : Record) (r : Result (Unit {0}) Refusal) {d : RefusedAt} → Err d ≡ with_line n r → came_refused (number_of d.refusal) d.line ≡ on_take (taken_reply r) n e
+stopped n e (Ok v) q = cc
+stopped n e (Err f) {d} q = let p : d ≡ record { refusal = f; line = n } = cc in rw p refl

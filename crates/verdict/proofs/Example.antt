@@ -16,7 +16,7 @@ use Rattle.records.specs.Ledger.{row_of, become, rows_up_to, rows_between, resol
 use Rattle.records.specs.Totals.{no_totals}
 use Rattle.records.specs.Example.{p10_lines, p10_judged, p10_totals}
 use Rattle.history.specs.Text.{text_of, texts}
-use Rattle.history.specs.Line.{ended, tune_at, read_at, write_at, behind_name, line_at}
+use Rattle.history.specs.Line.{ended, tune_at, read_at, write_at, behind_name, record_at, line_at}
 use Rattle.report.specs.Report.{spaced_line, verdict_word, head_line, verdict_line, total_line, report_text}
 use Rattle.verdict.specs.Judge.{judged, refused, lines, report_of}
 use Rattle.verdict.specs.Reply.{bytes, refused_at, replied, room_after}
@@ -33,7 +33,7 @@ pub examples :
     × (report_of [] ≡ judged [] no_totals)
     × (report_of (115 ∷ 9 ∷ 50 ∷ 10 ∷ 99 ∷ 9 ∷ 50 ∷ []) ≡ refused 13 2)
     × (report_of (115 ∷ 9 ∷ 50 ∷ 10 ∷ 99 ∷ 9 ∷ 49 ∷ 10 ∷ []) ≡ refused 15 2)
-unfolding report_of lines line_at behind_name tune_at read_at write_at ended on_number natural_behind_tab natural_at as_natural field_at digits more unsigned negative is_digit any count row_of become rows_up_to rows_between resolved chain verdict_on changed noted concluded line_step
+unfolding report_of lines line_at record_at behind_name tune_at read_at write_at ended on_number natural_behind_tab natural_at as_natural field_at digits more unsigned negative is_digit any count row_of become rows_up_to rows_between resolved chain verdict_on changed noted concluded line_step
 examples = (refl, refl, refl, refl)
 
 -- a text that is judged prints its report

@@ -2,9 +2,9 @@
 pub mod Limits
 pub mod Comes
 pub mod Turn
-pub mod Pass
 pub mod Answers
 pub mod Shown
+pub mod Pass
 pub mod Right
 pub mod Determined
 pub mod Example

@@ -1,5 +1,5 @@
 -- The pass over the lines of a text, with the words of the judge's memory: what each line comes to, and how the pass ends.
-use Rattle.std.specs.Prelude.{ℕ, zero, suc, ◌+◌, ◌-◌, Bool, true, false, cond, List, reverse, ltb}
+use Rattle.std.specs.Prelude.{ℕ, zero, suc, ◌+◌, ◌-◌, Bool, true, false, cond, List, reverse, ltb, Option, Some, None, Result, Ok, Err}
 use Rattle.units.specs.Refusal.{number_of}
 use Rattle.records.specs.Ledger.{line_step}
 use Rattle.records.specs.Totals.{raised}
@@ -13,10 +13,7 @@ use Rattle.history.specs.declared.Line.{Line}
 use Rattle.history.specs.declared.Line.TheVariants as line
 use Rattle.reader.specs.Reader.{place_after}
 use Rattle.verdict.specs.Judge.{Report, refused, judged}
-use Rattle.verdict.specs.declared.Came.{Came}
-use Rattle.verdict.specs.declared.Came.TheVariants as came
-use Rattle.verdict.specs.declared.Ran.{Ran}
-use Rattle.verdict.specs.declared.Ran.TheVariants as ran
+use Rattle.verdict.specs.declared.RefusedAt.{RefusedAt}
 
 -- what a line comes to, in document 01's numbers: a record, the history's end, or a refusal and its line
 pub data CameReply : Type 0 where
@@ -24,10 +21,10 @@ pub data CameReply : Type 0 where
   came_end : CameReply
   came_refused : (number line : ℕ) → CameReply
 
-abbrev pub came_reply : Came → CameReply
-came_reply (came.Record e) = came_record e
-came_reply came.End = came_end
-came_reply (came.Refused f n) = came_refused (number_of f) n
+abbrev pub came_reply : Result (Option Record) RefusedAt → CameReply
+came_reply (Ok (Some e)) = came_record e
+came_reply (Ok None) = came_end
+came_reply (Err r) = came_refused (number_of r.refusal) r.line
 
 -- "at each line 14, 13": line 4,097 is reached, or the line is not of the form
 unfoldable pub comes_to : ℕ → Line → CameReply
@@ -61,9 +58,9 @@ record_of came_end = Start 0
 record_of (came_refused number n) = Start n
 
 -- what the pass came to, with the words that it left
-abbrev pub ran_to : Ran → List ℕ → Report
-ran_to (ran.Done t) ws = judged (reverse (judged_in ws)) t
-ran_to (ran.Refused f n) ws = refused (number_of f) n
+abbrev pub ran_to : Result Totals RefusedAt → List ℕ → Report
+ran_to (Ok t) ws = judged (reverse (judged_in ws)) t
+ran_to (Err r) ws = refused (number_of r.refusal) r.line
 
 abbrev pub ends_in : CameReply → Totals → List ℕ → Report
 ends_in (came_record e) t ws = judged (reverse (judged_in ws)) t

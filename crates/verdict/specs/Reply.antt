@@ -1,10 +1,9 @@
 -- The judge's reply in document 01's numbers, and the lent room after it.
-use Rattle.std.specs.Prelude.{ℕ, List}
+use Rattle.std.specs.Prelude.{ℕ, List, Result, Ok, Err}
 use Rattle.units.specs.Refusal.{number_of}
 use Rattle.decimal.specs.Write.{put, handed_over}
 use Rattle.report.specs.Report.{report_text}
-use Rattle.verdict.specs.declared.Answer.{Answer}
-use Rattle.verdict.specs.declared.Answer as answer
+use Rattle.verdict.specs.declared.RefusedAt.{RefusedAt}
 use Rattle.verdict.specs.Judge.{Report, refused, judged}
 
 -- how many bytes were written, or a refusal by its number and line
@@ -12,9 +11,9 @@ pub data Reply : Type 0 where
   bytes : ℕ → Reply
   refused_at : (number line : ℕ) → Reply
 
-abbrev pub reply_of : Answer → Reply
-reply_of (answer.TheVariants.Bytes n) = bytes n
-reply_of (answer.TheVariants.Refused f line) = refused_at (number_of f) line
+abbrev pub reply_of : Result ℕ RefusedAt → Reply
+reply_of (Ok n) = bytes n
+reply_of (Err r) = refused_at (number_of r.refusal) r.line
 
 -- 17: "the whole output or message is longer than the lent room"; its line is 0
 abbrev pub replied : Report → List ℕ → Reply

@@ -1,21 +1,20 @@
 -- `settle` meets its contract: a kind of record at a time.
-use Rattle.ledger.proofs.Cases.{settle-start, settle-tune, settle-write, settle-abort, settle_read, settle-commit}
+use mathlib.Core.Path.{refl}
+use Rattle.records.specs.Ledger.{changed, noted, concluded}
+use Rattle.ledger.specs.Take.{seen_pushed, judged_pushed, settled}
+use Rattle.ledger.proofs.Cases.{shifted}
 use Rattle.ledger.proofs.settle.Goals as goal
+use Rattle.ledger.proofs.settle.Goals.{in-Start, in-Tune, in-Read, in-Write, in-Commit, in-Abort}
 
-pub returns-in-Start : goal.returns-in-Start
-returns-in-Start c = settle-start _ _ _ _ c.in-Start.is c.store_row.ensures
-
-pub returns-in-Tune : goal.returns-in-Tune
-returns-in-Tune c = settle-tune _ _ _ _ c.in-Tune.is c.tuned.ensures c.store_row-in-Tune.ensures
-
-pub returns-in-Read : goal.returns-in-Read
-returns-in-Read c = settle_read _ _ _ _ c.in-Read.is c.note.ensures
-
-pub returns-in-Write : goal.returns-in-Write
-returns-in-Write c = settle-write _ _ _ _ c.in-Write.is c.written.ensures c.store_row-in-Write.ensures
-
-pub returns-in-Commit : goal.returns-in-Commit
-returns-in-Commit c = settle-commit _ _ _ _ c.in-Commit.is c.conclude.ensures
-
-pub returns-in-Abort : goal.returns-in-Abort
-returns-in-Abort c = settle-abort _ _ _ _ c.in-Abort.is c.ended.ensures c.store_row-in-Abort.ensures
+pub returns : goal.returns
+unfolding settled seen_pushed judged_pushed noted concluded changed
+returns c =
+    rw c.store_row.ensures
+    (elim c.match-e.branch [
+      | in-Start w ↦ rw (w.memory-is, w.after-is, w.in-Start.is) refl
+      | in-Tune w ↦ rw (w.memory-is, w.after-is, w.in-Tune.is) refl
+      | in-Read w ↦ rw (w.memory-is, w.after-is, w.in-Read.is, w.note-after.ensures.memory, w.note-after.ensures.row) refl
+      | in-Write w ↦ rw (w.memory-is, w.after-is, w.in-Write.is, shifted w.in-Write.key) refl
+      | in-Commit w ↦ rw (w.memory-is, w.after-is, w.in-Commit.is, w.add_verdict.ensures, w.verdict_on-verdict.ensures) refl
+      | in-Abort w ↦ rw (w.memory-is, w.after-is, w.in-Abort.is) refl
+    ])

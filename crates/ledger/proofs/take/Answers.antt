@@ -1,15 +1,23 @@
 -- `take` meets its contract: a start begins, another record is settled where its row is open, and refused where it is not.
-use Rattle.ledger.proofs.Cases.{take-starts, take_open, take-closed}
+use Rattle.records.specs.Ledger.{line_step}
+use Rattle.ledger.specs.Take.{booked}
+use Rattle.ledger.proofs.Cases.{not-start, take_open, take-closed}
 use Rattle.ledger.proofs.take.Goals as goal
 
-pub begin-requires : goal.begin-requires
-begin-requires c = rw (c.name_of-then-is_start.ensures, ← c.name_of.ensures) c.find-number.ensures
+pub returns-in-Start-clause-reply : goal.returns-in-Start-clause-reply
+unfolding line_step
+returns-in-Start-clause-reply c = rw c.in-Start.is c.begin.ensures.reply
 
-pub returns-then-is_start : goal.returns-then-is_start
-returns-then-is_start c = record { reply = (take-starts _ _ _ c.is_start.ensures c.if-is_start.true c.name_of-then-is_start.ensures (c.begin.ensures.reply, c.begin.ensures.memory)).0; memory = (take-starts _ _ _ c.is_start.ensures c.if-is_start.true c.name_of-then-is_start.ensures (c.begin.ensures.reply, c.begin.ensures.memory)).1 }
+pub returns-in-Start-clause-memory : goal.returns-in-Start-clause-memory
+unfolding line_step booked
+returns-in-Start-clause-memory c = rw c.in-Start.is c.begin.ensures.memory
 
-pub returns-then-row-eq0 : goal.returns-then-row-eq0
-returns-then-row-eq0 c = record { reply = (take_open _ _ _ c.is_start.ensures c.if-is_start.false c.name_of.ensures c.find-number.ensures c.load_row-row.ensures c.if-row-eq0.true c.below.ensures c.settle.ensures).0; memory = (take_open _ _ _ c.is_start.ensures c.if-is_start.false c.name_of.ensures c.find-number.ensures c.load_row-row.ensures c.if-row-eq0.true c.below.ensures c.settle.ensures).1 }
+pub returns-then-row-ne0 : goal.returns-then-row-ne0
+returns-then-row-ne0 c =
+    let t = take-closed c.args.memory.now c.args.line c.args.e (not-start c.args.e c.in_default.not-Start) c.name_of.ensures c.find-number.ensures c.load_row-row.ensures c.if-row-ne0.true in
+    record { reply = t.0; memory = t.1 }
 
 pub returns : goal.returns
-returns c = record { reply = (take-closed _ _ _ c.is_start.ensures c.if-is_start.false c.name_of.ensures c.find-number.ensures c.load_row-row.ensures c.if-row-eq0.false).0; memory = (take-closed _ _ _ c.is_start.ensures c.if-is_start.false c.name_of.ensures c.find-number.ensures c.load_row-row.ensures c.if-row-eq0.false).1 }
+returns c =
+    let t = take_open c.args.memory.now c.args.line c.args.e (not-start c.args.e c.in_default.not-Start) c.name_of.ensures c.find-number.ensures c.load_row-row.ensures c.if-row-ne0.false c.saturating_sub.ensures c.settle.ensures in
+    record { reply = t.0; memory = t.1 }

@@ -13,10 +13,10 @@ returns-in_default c =
 pub overflow_add-result : goal.overflow_add-result
 overflow_add-result c =
     let small : c.args.n < 18446744073709551616 = search rules in
-    let h = number-end _ _ _ c.requires small (c.put_natural.ensures.reply, c.put_natural.ensures.buffer) c.in-Next.is in
+    let h = number-end _ _ _ c.requires small (c.put_natural.ensures.reply, c.put_natural.ensures.buffer) c.in-Some.is in
     omega arith
 
 pub returns : goal.returns
 returns c =
     let small : c.args.n < 18446744073709551616 = search rules in
-    number_put _ _ _ c.requires small (c.put_natural.ensures.reply, c.put_natural.ensures.buffer) c.in-Next.is _ c.put_byte.ensures.buffer
+    number_put _ _ _ c.requires small (c.put_natural.ensures.reply, c.put_natural.ensures.buffer) c.in-Some.is _ c.put_byte.ensures.buffer

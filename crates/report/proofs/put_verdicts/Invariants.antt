@@ -1,5 +1,5 @@
 -- `put_verdicts` meets its contract. The invariant: the lines passed stand behind one another, at most 24 bytes each.
-use Prim.Native.Nat.{◌+◌, ◌-◌, ◌*◌, ◌≤◌}
+use Prim.Native.Nat.{◌+◌, ◌*◌, ◌≤◌}
 use mathlib.Core.List.{reverse}
 use Rattle.decimal.specs.Write.{Puts}
 use Rattle.book.specs.Book.{judged_of}
@@ -7,7 +7,4 @@ use Rattle.report.specs.Report.{verdict_lines}
 use Rattle.report.proofs.put_verdicts.Given as goal
 
 abbrev pub invariant-loop-i : goal.invariant-loop-i
-invariant-loop-i l = (l.i ≤ l.n) × ((l.to ≤ l.at + 24 * l.i) × Puts l.initial.text l.text l.at (verdict_lines (reverse (judged_of l.memory l.i))) l.to)
-
-abbrev pub decreases-loop-i : goal.decreases-loop-i
-decreases-loop-i l = 512 - l.i
+invariant-loop-i l = (l.to ≤ l.at + 24 * l.i) × Puts l.initial.text l.text l.at (verdict_lines (reverse (judged_of l.memory l.i))) l.to

@@ -4,12 +4,12 @@ use Rattle.records.specs.Totals.{no_totals}
 use Rattle.verdict.specs.Pass.{passes}
 use Rattle.verdict.proofs.run.Given as goal
 
-abbrev pub invariant-loop-reader : goal.invariant-loop-reader
-invariant-loop-reader l = record {
+abbrev pub invariant-loop-e : goal.invariant-loop-e
+invariant-loop-e l = record {
   text : l.reader.text.now ≡ l.text;
   few : l.line ≤ 4097;
   rest : passes l.text l.reader.at l.line l.totals l.memory ≡ passes l.fn.text 0 1 no_totals l.fn.memory;
 }
 
-abbrev pub decreases-loop-reader : goal.decreases-loop-reader
-decreases-loop-reader l = 4097 - l.line
+abbrev pub decreases-loop-e : goal.decreases-loop-e
+decreases-loop-e l = 4097 - l.line
