@@ -2,7 +2,6 @@
 // space, the bytes of history, then spaces up to a newline), then the history, and so on to the end of the input.
 #![tactic(auto)]
 
-use decimal::Natural;
 use intake::read_full;
 use std::io;
 use std::io::Read;
@@ -25,19 +24,12 @@ struct Edge {
 }
 
 fn edge_of(head: &[u8]) -> Option<Edge> {
-    let (lent, at) = number(decimal::natural_at(head, 0, 0, OUTPUT as u64))?;
-    let (length, _) = number(decimal::natural_at(head, at.saturating_add(1), 0, INPUT as u64))?;
+    let (lent, at) = decimal::natural_at(head, 0, 0, OUTPUT as u64)?;
+    let (length, _) = decimal::natural_at(head, at.saturating_add(1), 0, INPUT as u64)?;
     Some(Edge {
         lent: lent as usize,
         length: length as usize,
     })
-}
-
-fn number(n: Natural) -> Option<(u64, usize)> {
-    match n {
-        Natural::Number(v, e) => Some((v, e)),
-        Natural::Bad => None,
-    }
 }
 
 // The rooms for a history and for what is printed of it.
