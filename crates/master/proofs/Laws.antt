@@ -2,32 +2,27 @@
 use Prim.Native.Nat.{ℕ, ◌+◌, ◌-◌, ◌≤◌, ◌<◌, min}
 use native.Mathlib.Omega.{arith}
 use native.Mathlib.Numerals.{add-one}
-use mathlib.Core.Path.{◌≡◌, sym, ◌∙◌, ap}
-use mathlib.Core.Bool.{Bool, true, false}
+use mathlib.Core.Path.{◌≡◌, refl, sym, ◌∙◌, ap}
+use mathlib.Core.Bool.{Bool, true, false, cond}
 use mathlib.Core.List.{List}
-use borrow.Author.Tests.{le-leb, lt-leb, lt-ltb, le-ltb, eq-eqb, ne_eqb}
-use lib.Dec.{leb}
+use borrow.Author.Tests.{le-leb, lt-leb, lt-ltb, le-ltb, eq-eqb, ne_eqb, ltb-true, leb-false}
+use lib.Dec.{leb, ltb}
+use Rattle.std.proofs.lemmas.List.{get_or_default}
 use lib.IntN.{ℤ}
 use lib.ListN.{length, get_or, set, take, length-take}
-use Rattle.std.specs.Prelude.{Option, Some, None, Ok, Err, SomeIff}
+use Rattle.std.specs.Prelude.{Option, Some, None, Ok, Err, SomeIff, IfSome, is_some}
 use Rattle.std.specs.Option.{ok_or}
 use Rattle.units.specs.declared.Version.{Version}
 use Rattle.units.specs.Refusal.{number_of}
 use Rattle.units.specs.declared.refusal.Refusal.{Refusal}
-use Rattle.units.specs.declared.refusal.Refusal.TheVariants.{ClockSpent}
+use Rattle.units.specs.declared.refusal.Refusal.TheVariants.{ClockSpent, NoTransaction}
 use Rattle.units.specs.declared.rule.Rule.{Rule}
-use Rattle.units.specs.declared.rule.Certified.{Certified}
-use Rattle.units.specs.declared.rule.Certified.TheVariants.{Whole, Broken}
 use Rattle.transaction.specs.declared.Transaction.{Transaction}
-use Rattle.transaction.specs.declared.Pending.{Pending}
-use Rattle.transaction.specs.declared.Pending.TheVariants.{Value, Nothing}
 use Rattle.transaction.specs.Transaction.{recorded, pending_of, reads_of, writes_of, no_mark}
 use Rattle.model.specs.Log.{Entry, newest, look_up, made_at}
 use Rattle.model.specs.Rules.{distance, certified}
 use Rattle.model.specs.Step.{step, checks_of, final_of, order, marked}
 use Rattle.model.specs.Call.{Read, Note, Distance, Commit, Message, Newest, refused, version, own, apart_by, committed, aborted, made, made_by}
-use Rattle.units.specs.declared.Found.{Found}
-use Rattle.units.specs.declared.Found.TheVariants.{At, Absent}
 use Rattle.units.specs.declared.Batch.{Batch}
 use Rattle.transaction.specs.declared.Mark.{Mark}
 use Rattle.versions.specs.Batch.{batch_of}
@@ -65,15 +60,15 @@ module _ (ws : List ℕ) (n : ℕ) where
     unfolding step checks_of final_of order
     read_no_key k h = rw (lt-leb 32 _ live, lt-ltb 63 _ h)
 
-    pub read-own : (k : ℕ) (v : ℤ) → k ≤ 63 → pending_of t k ≡ Value v → own v ≡ (step (state_of ws) (Read n k)).reply
+    pub read-own : (k : ℕ) (v : ℤ) → k ≤ 63 → pending_of t k ≡ Some v → own v ≡ (step (state_of ws) (Read n k)).reply
     unfolding step checks_of final_of order
     read-own k v h p = rw (lt-leb 32 _ live, le-ltb 63 _ h, places_at ws (at ws n) live, p)
 
-    pub read-full : (k : ℕ) → k ≤ 63 → pending_of t k ≡ Nothing → leb 16 t.recorded ≡ true → refused 4 ≡ (step (state_of ws) (Read n k)).reply
+    pub read-full : (k : ℕ) → k ≤ 63 → pending_of t k ≡ None → leb 16 t.recorded ≡ true → refused 4 ≡ (step (state_of ws) (Read n k)).reply
     unfolding step checks_of final_of order
     read-full k h p f = rw (lt-leb 32 _ live, le-ltb 63 _ h, places_at ws (at ws n) live, p, f)
 
-    pub read_goes : (k : ℕ) → k ≤ 63 → pending_of t k ≡ Nothing → leb 16 t.recorded ≡ false → version (newest (log_of ws) k) ≡ (step (state_of ws) (Read n k)).reply
+    pub read_goes : (k : ℕ) → k ≤ 63 → pending_of t k ≡ None → leb 16 t.recorded ≡ false → version (newest (log_of ws) k) ≡ (step (state_of ws) (Read n k)).reply
     unfolding step checks_of final_of order
     read_goes k h p f = rw (lt-leb 32 _ live, le-ltb 63 _ h, places_at ws (at ws n) live, p, f)
 
@@ -83,15 +78,15 @@ module _ (ws : List ℕ) (n : ℕ) where
       note_no_key h = rw (lt-leb 32 _ live, lt-ltb 63 _ h)
 
       module _ (h : k ≤ 63) where
-        pub note-written : (v : ℤ) → pending_of t k ≡ Value v → refused 8 ≡ (step (state_of ws) (Note n k o)).reply
+        pub note-written : (v : ℤ) → pending_of t k ≡ Some v → refused 8 ≡ (step (state_of ws) (Note n k o)).reply
         unfolding step checks_of final_of order
         note-written v p = rw (lt-leb 32 _ live, le-ltb 63 _ h, places_at ws (at ws n) live, p)
 
-        pub note_absent : pending_of t k ≡ Nothing → look_up (log_of ws) k o ≡ Absent → refused 7 ≡ (step (state_of ws) (Note n k o)).reply
+        pub note_absent : pending_of t k ≡ None → look_up (log_of ws) k o ≡ None → refused 7 ≡ (step (state_of ws) (Note n k o)).reply
         unfolding step checks_of final_of order
         note_absent p q = rw (lt-leb 32 _ live, le-ltb 63 _ h, places_at ws (at ws n) live, p, q)
 
-        module _ (v : Version) (p : pending_of t k ≡ Nothing) (q : look_up (log_of ws) k o ≡ At v) where
+        module _ (v : Version) (p : pending_of t k ≡ None) (q : look_up (log_of ws) k o ≡ Some v) where
           pub note-full : leb 16 t.recorded ≡ true → refused 4 ≡ (step (state_of ws) (Note n k o)).reply
           unfolding step checks_of final_of order
           note-full f = rw (lt-leb 32 _ live, le-ltb 63 _ h, places_at ws (at ws n) live, p, q, f)
@@ -109,11 +104,11 @@ module _ (ws : List ℕ) (n : ℕ) where
       unfolding step checks_of final_of order
       distance_goes h = rw (lt-leb 32 _ live, places_at ws (at ws n) live, lt-leb (length (reads_of t)) p h)
 
-    pub commit-aborts : (r : Rule) → certified (log_of ws) t ≡ Broken r → aborted r ≡ (step (state_of ws) (Commit n)).reply
+    pub commit-aborts : (r : Rule) → certified (log_of ws) t ≡ Err r → aborted r ≡ (step (state_of ws) (Commit n)).reply
     unfolding step checks_of final_of order
     commit-aborts r e = rw (lt-leb 32 _ live, places_at ws (at ws n) live, e)
 
-    module _ (kept : certified (log_of ws) t ≡ Whole) where
+    module _ (kept : certified (log_of ws) t ≡ Ok tt) where
       size : length (log_of ws) ≡ length_of ws
       size = length-log ws (length_of ws)
 
@@ -201,6 +196,24 @@ module _ (ws : List ℕ) where
   pub newest_goes : (k : ℕ) (v : Version) → k ≤ 63 → v ≡ newest (log_of ws) k → made_by v.stamp.0 ≡ (step (state_of ws) (Newest k)).reply
   unfolding step checks_of final_of order
   newest_goes k v h e = rw (le-ltb 63 _ h, e)
+
+-- the read at a place, from what the look-up of it answers
+pub looked_up : {R : Type 0} (now : R → Mark) (l : List Mark) (p : ℕ) (o : Option R) (r : R) (f : Refusal) → is_some o ≡ ltb p (length l) → IfSome o (λ x. now x ≡ get_or l p (now x))
+    → Ok r ≡ ok_or o f → (p < length l) × (now r ≡ get_or l p no_mark)
+looked_up now l p None r f e h k = absurd (cc)
+looked_up now l p (Some x) r f e h k = let is : r ≡ x = cc in let b : p < length l = ltb-true p (length l) (sym e) in (b, rw is (h ∙ get_or_default l p (now x) no_mark b))
+
+-- the transaction at a place that was opened
+pub distance-of : (ws : List ℕ) (n i p : ℕ) (t : Transaction) (x : Mark) (d : ℤ) → i ≡ at ws n → Ok t ≡ cond (leb 32 i) (Err NoTransaction) (Ok (loaded ws i)) → p < length (reads_of t)
+    → x ≡ get_or (reads_of t) p no_mark → d ≡ distance (log_of ws) t.name.0 x → apart_by d ≡ (step (state_of ws) (Distance n p)).reply
+distance-of ws n i p t x d e o h y z = go (leb 32 i) refl o
+  where
+    go : (b : Bool) → leb 32 i ≡ b → Ok t ≡ cond b (Err NoTransaction) (Ok (loaded ws i)) → apart_by d ≡ (step (state_of ws) (Distance n p)).reply
+    go true k o = absurd (cc)
+    go false k o =
+        let same : t ≡ loaded ws (at ws n) = cc in
+        let live : at ws n < 32 = rw e at (leb-false 32 i k) in
+        ap apart_by (z ∙ ap (distance (log_of ws) t.name.0) y ∙ rw same) ∙ distance_goes ws n live p (rw same at h)
 
 -- what the check finds the calls' answers by
 pub ruleset decided = (read-nobody, read_no_key, read-own, read-full, read_goes, note-nobody, note_no_key, note-written, note_absent, note-full, note_goes, distance-nobody, distance_none, distance_goes, commit-nobody, commit-aborts, commit-full, commit-spent, commit_goes)

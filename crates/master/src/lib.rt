@@ -20,18 +20,18 @@ use counts::length_of;
 use desk::{Decided, change_end};
 use memory::{CLOCK, WORDS, load, store};
 use places::place_of;
-use transaction::{Mark, Pending, Transaction};
-use units::{Batch, Certified, Found, Ordinal, Refusal, Rule, Stamp, Version, limits};
+use transaction::{Mark, Transaction};
+use units::{Batch, Ordinal, Refusal, Rule, Stamp, Version, limits};
 
 // What read and note answer: a version of the log, or the transaction's own pending value.
-#[derive(Clone, Copy)]
+#[derive(Clone, Copy, PartialEq, Eq)]
 pub enum Reading {
     Version(Version),
     Own(i32),
 }
 
 // Why nothing was committed: the first broken rule at its place, or a refusal.
-#[derive(Clone, Copy)]
+#[derive(Clone, Copy, PartialEq, Eq)]
 pub enum NotCommitted {
     Aborted(Rule),
     Refused(Refusal),
@@ -69,7 +69,7 @@ fn answer_read(memory: &[u32; WORDS], place: usize, key: u32) -> Result<Reading,
 {
     let t = opened(memory, place)?;
     is_key(key)?;
-    if let Pending::Value(v) = t.pending(key) {
+    if let Some(v) = t.pending(key) {
         return Ok(Reading::Own(v));
     }
     has_room(&t)?;
@@ -119,12 +119,10 @@ fn answer_note(memory: &[u32; WORDS], place: usize, key: u32, ordinal: Ordinal) 
 {
     let t = opened(memory, place)?;
     is_key(key)?;
-    let Pending::Nothing = t.pending(key) else {
+    if t.pending(key).is_some() {
         return Err(Refusal::KeyWritten);
-    };
-    let Found::At(v) = versions::look_up(memory, key, ordinal) else {
-        return Err(Refusal::NoVersion);
-    };
+    }
+    let v = versions::look_up(memory, key, ordinal).ok_or(Refusal::NoVersion)?;
     has_room(&t)?;
     Ok(Reading::Version(v))
 }
@@ -149,11 +147,8 @@ pub fn distance(memory: &[u32; WORDS], name: Stamp, place: u32) -> Result<i64, R
     ensures { distance_reply result ≡ (step (state_of memory.now) (Distance name.0 place)).reply }
 {
     let t = opened(memory, place_of(memory, name))?;
-    let p = place as usize;
-    if t.reads_in() <= p {
-        return Err(Refusal::NoSuchBoundOrPlace);
-    }
-    Ok(rules::distance_of(memory, t.name, t.read_at(p)))
+    let read = t.reads().get(place as usize).ok_or(Refusal::NoSuchBoundOrPlace)?;
+    Ok(rules::distance_of(memory, t.name, *read))
 }
 
 pub fn decide_commit(memory: &[u32; WORDS], name: Stamp) -> Decided<Stamp, NotCommitted>
@@ -171,10 +166,8 @@ fn answer_commit(memory: &[u32; WORDS], place: usize) -> Result<Stamp, NotCommit
     ensures { (n : ℕ) → place ≡ place_of (places_of memory.now) n → commit_reply result ≡ (step (state_of memory.now) (Commit n)).reply }
 {
     let t = opened(memory, place)?;
-    if let Certified::Broken(rule) = rules::certify(memory, t) {
-        return Err(NotCommitted::Aborted(rule));
-    }
-    if limits::LOG - length_of(memory) < t.writes_in() {
+    rules::certify(memory, t)?;
+    if limits::LOG - length_of(memory) < t.writes().len() {
         return Err(NotCommitted::Refused(Refusal::LogFull));
     }
     let next = memory[CLOCK].checked_add(1).ok_or(Refusal::ClockSpent)?;
