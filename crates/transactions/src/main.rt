@@ -3,10 +3,8 @@
 // were granted, and a sum over all answers. bench/transactions.py measures it.
 #![tactic(auto)]
 
-use decimal::Natural;
-use desk::{DoneAnswer, StartAnswer};
 use intake::read_full;
-use master::{CommitAnswer, ReadAnswer};
+use master::{NotCommitted, Reading};
 use memory::WORDS;
 use std::io;
 use units::{Refusal, Stamp};
@@ -46,19 +44,12 @@ fn play_line(rt: &impl Print, memory: &mut [u32; WORDS], line: &[u8]) -> io::Res
 
 // How many transactions, and after how many the master is opened anew.
 fn run_of(line: &[u8]) -> Option<(u32, u32)> {
-    let (count, e) = number(decimal::natural_at(line, 0, 0, MOST))?;
-    let (every, end) = number(decimal::natural_behind_tab(line, e, 1, MOST))?;
+    let (count, e) = decimal::natural_at(line, 0, 0, MOST)?;
+    let (every, end) = decimal::natural_behind_tab(line, e, 1, MOST)?;
     if end != line.len() {
         return None;
     }
     Some((u32::try_from(count).ok()?, u32::try_from(every).ok()?))
-}
-
-fn number(n: Natural) -> Option<(u64, usize)> {
-    match n {
-        Natural::Number(v, e) => Some((v, e)),
-        Natural::Bad => None,
-    }
 }
 
 // The memory that a run is played on, how many of its transactions were granted, and the sum over its answers.
@@ -84,11 +75,11 @@ impl Run<'_> {
     // The transaction of number i.
     fn transact(&mut self, i: u32) {
         match desk::start(self.memory) {
-            StartAnswer::Started(name) => {
+            Ok(name) => {
                 self.hear(name.0);
                 self.work(i, name);
             }
-            StartAnswer::Refused(refusal) => self.refuse(refusal),
+            Err(refusal) => self.refuse(refusal),
         }
     }
 
@@ -101,32 +92,31 @@ impl Run<'_> {
 
     fn read(&mut self, name: Stamp, key: u32) {
         match master::read(self.memory, name, key) {
-            ReadAnswer::Answered(v) => {
+            Ok(Reading::Version(v)) => {
                 self.hear(v.ordinal.0);
                 self.hear(v.stamp.0);
                 self.hear(v.value.cast_unsigned());
             }
-            ReadAnswer::Own(v) => self.hear(v.cast_unsigned()),
-            ReadAnswer::Refused(refusal) => self.refuse(refusal),
+            Ok(Reading::Own(v)) => self.hear(v.cast_unsigned()),
+            Err(refusal) => self.refuse(refusal),
         }
     }
 
     fn write(&mut self, name: Stamp, key: u32, value: i32) {
-        match desk::write(self.memory, name, key, value) {
-            DoneAnswer::Done => {}
-            DoneAnswer::Refused(refusal) => self.refuse(refusal),
+        if let Err(refusal) = desk::write(self.memory, name, key, value) {
+            self.refuse(refusal);
         }
     }
 
     // One transaction at a time breaks no rule: an abort would leave its mark in the number granted.
     fn commit(&mut self, name: Stamp) {
         match master::commit(self.memory, name) {
-            CommitAnswer::Committed(stamp) => {
+            Ok(stamp) => {
                 self.hear(stamp.0);
                 self.granted = self.granted.wrapping_add(1);
             }
-            CommitAnswer::Aborted(_) => {}
-            CommitAnswer::Refused(refusal) => self.refuse(refusal),
+            Err(NotCommitted::Aborted(_)) => {}
+            Err(NotCommitted::Refused(refusal)) => self.refuse(refusal),
         }
     }
 
