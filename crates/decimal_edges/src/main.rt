@@ -2,38 +2,13 @@
 // a bound, a stamp, a 64-bit word and a signed value, each as the writer puts it back, or bad.
 #![tactic(auto)]
 
-ghost use Rattle.std.specs.Prelude.{◌≤◌, IfOk, length};
-
+use intake::read_full;
 use std::io;
-use std::io::{ErrorKind, Read};
 
 fn main(rt: HostRuntime) -> io::Result<()> {
     let mut buf = [0u8; 1024];
     let n = read_full(&mut rt.stdin(), &mut buf)?;
     show_lines(&rt, &buf[..n])
-}
-
-// Reads until `buf` is full or the input ends, and returns how many bytes it put at the start of `buf`. A read that a signal
-// interrupts is made again.
-fn read_full(input: &mut impl Read, buf: &mut [u8]) -> io::Result<usize>
-    ensures { IfOk result (λ n. n ≤ length buf.new) }
-{
-    let mut done = 0;
-    for _ in 0..u64::MAX {
-        if done == buf.len() {
-            break;
-        }
-        match input.read(&mut buf[done..]) {
-            Ok(0) => break,
-            Ok(n) => done += n,
-            Err(e) => {
-                if e.kind() != ErrorKind::Interrupted {
-                    return Err(e);
-                }
-            }
-        }
-    }
-    Ok(done)
 }
 
 // Each line that a newline ends.

@@ -1,6 +1,0 @@
--- No more is read than the buffer has room for.
-use Rattle.std.proofs.Common.{◌≤◌, length}
-use Rattle.judge.proofs.read_full.Given as goal
-
-abbrev pub invariant-loop : goal.invariant-loop
-invariant-loop g l = l.done ≤ length l.buf
