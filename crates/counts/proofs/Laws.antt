@@ -1,17 +1,14 @@
 -- What the counts of document 01 are in terms of those that the code walks for.
-use Prim.Native.Nat.{ℕ, suc, ◌+◌, ◌-◌, ◌<◌, ◌≤◌}
+use Prim.Native.Nat.{ℕ, suc, ◌+◌, ◌≤◌}
 use native.Mathlib.Omega.{arith}
 use native.Mathlib.Numerals.{add-one}
-use mathlib.Core.Path.{◌≡◌, refl, sym, ◌∙◌, ap, fun_ext}
-use mathlib.Core.Bool.{Bool, true, false, cond, ◌&&◌, ◌||◌, and-false}
+use mathlib.Core.Path.{◌≡◌, refl, ◌∙◌}
+use mathlib.Core.Bool.{Bool, true, false, cond, ◌&&◌, ◌||◌}
 use mathlib.Core.List.{List, [], ◌∷◌}
-use lib.Dec.{leb, ltb, leb-zero, leb-suc-suc}
-use borrow.Author.Tests.{ltb-true, leb-true, leb-false, lt-ltb, le-ltb}
+use lib.Dec.{leb, ltb, leb-suc-suc}
+use borrow.Author.Tests.{leb-true, leb-false, lt-ltb, le-ltb}
 use Rattle.lists.specs.Lists.{count, any}
-use Rattle.lists.proofs.Every.{every_each}
-use Rattle.lists.proofs.Count.{count_none}
-use Rattle.lists.proofs.Tests.{leb-before}
-use Rattle.model.specs.Log.{Entry, of_key, up_to, between, changed_after, versions}
+use Rattle.model.specs.Log.{Entry, of_key, up_to, changed_after, versions}
 use Rattle.memory.specs.Memory.{entry_at, entries}
 use Rattle.counts.specs.Where.{counted}
 

@@ -1,15 +1,13 @@
 -- A word as a signed number.
 use Prim.Native.Nat.{ℕ, suc, ◌-◌}
 use native.Mathlib.Omega.{arith}
-use mathlib.Core.Path.{◌≡◌, refl, ◌∙◌}
+use mathlib.Core.Path.{◌≡◌, refl}
 use mathlib.Core.Bool.{Bool, true, false}
 use borrow.Author.Tests.{ltb-true, ltb-false}
-use lib.Dec.{T, ltb}
-use lib.IntN.{ℤ, pos, negsuc, nat_abs}
-use lib.Signed.{mag, lt_z, non_neg}
+use lib.Dec.{ltb}
+use lib.IntN.{pos, negsuc}
 use mir.Syntax.{w32}
-use mir.Val.{Fits, SFits, to_z, of_z, sel}
-use mir.Facts.{to_z_pos, to_z-of_z}
+use mir.Val.{SFits, to_z, sel}
 
 -- whatever the word is, its value is one of 32 bits
 pub value-fits : (w : ℕ) → SFits w32 (to_z w32 w)

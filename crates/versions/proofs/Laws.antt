@@ -23,7 +23,6 @@ use Rattle.std.specs.Prelude.{Option, Some, None}
 use Rattle.versions.specs.Last.{last_of}
 use Rattle.words.specs.Installed.{laid, appended, installed}
 use Rattle.words.proofs.Installing.{length-log}
-use Rattle.memory.specs.Layout.{keys_from, ordinals_from}
 
 module _ (ws : List ℕ) where
   pub log_back : (i : ℕ) → 0 < i → entries ws i ≡ entry_at ws (i - 1) ∷ entries ws (i - 1)

@@ -25,7 +25,7 @@ use Rattle.model.specs.Log as log
 use Rattle.model.specs.Rules.{certified}
 use Rattle.model.specs.State.{State, opened, no_transaction, free_place, transaction, with_transaction}
 use Rattle.model.specs.Step.{Step, step, checks_of, final_of, order, marked, ends}
-use Rattle.model.specs.Call.{Call, Start, Read, Note, Write, Tune, Distance, Abort, Commit, Message, Newest, Reply, refused, started, version, own, done, apart_by, committed, aborted, made, made_by}
+use Rattle.model.specs.Call.{Call, Start, Read, Note, Write, Tune, Distance, Abort, Commit, Message, Newest, Reply, started, version, done, committed, aborted}
 use Rattle.model.specs.Session.{reached, replies}
 use Rattle.units.specs.Bounds.{triple}
 use Rattle.memory.specs.Memory.{tab, base_of, mark_at, write_at, entries, loaded, stored, places_of, length_of, log_of, state_of, Good}

@@ -1,4 +1,4 @@
-use Rattle.std.proofs.Common.{◌≡◌, ◌∙◌, sym, arith}
+use Rattle.std.proofs.Common.{◌≡◌, ◌∙◌, arith}
 use Rattle.lists.proofs.Find.{search_over, search_hit, search_miss}
 use Rattle.memory.specs.Memory.{places_of}
 use Rattle.memory.proofs.Laws.{places_length}
