@@ -1,4 +1,4 @@
--- What the code asks of a read or a written key, as the rules of document 01 ask it.
+-- What the code asks of a read, as the rules of document 01 ask it.
 use Prim.Native.Nat.{ℕ}
 use mathlib.Core.Path.{◌≡◌, sym, ◌∙◌, ap}
 use mathlib.Core.Bool.{Bool, not}
