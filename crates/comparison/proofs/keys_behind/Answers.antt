@@ -17,13 +17,13 @@ pub overflow_add-word : goal.overflow_add-word
 overflow_add-word c =
     let k = c.loop-key.key in
     let p = is_behind (log_of c.args.memory.now) c.args.held in
-    let e = word_with p k c.loop-key.invariant c.loop-key-test.true (lt-ltb _ _ (rw c.newest_ordinal.ensures at c.if-held-key.true)) in
+    let e = word_with p k c.loop-key.invariant (omega (arith, c.loop-key-test.true)) (lt-ltb _ _ (rw c.newest_ordinal.ensures at c.if-held-key.true)) in
     record { fits = rw e (lt_of_lt_of_le (word_lt p (k + 1)) (pow_mono {j = 64} (omega (arith, c.loop-key-test.true)))) }
 
 pub loop-key-preserved : goal.loop-key-preserved
 loop-key-preserved c =
     let p = is_behind (log_of c.args.memory.now) c.args.held in
     elim c.if-held-key.branch [
-      | then-held-key w ↦ rw w.word-is (word_with p _ c.loop-key.invariant c.loop-key-test.true (lt-ltb _ _ (rw c.newest_ordinal.ensures at w.if-held-key.true)))
+      | then-held-key w ↦ rw w.word-is (word_with p _ c.loop-key.invariant (omega (arith, c.loop-key-test.true)) (lt-ltb _ _ (rw c.newest_ordinal.ensures at w.if-held-key.true)))
       | else-held-key w ↦ rw w.word-is (word_without p _ c.loop-key.invariant (le-ltb _ _ (rw c.newest_ordinal.ensures at w.if-held-key.false)))
     ]
