@@ -1,35 +1,37 @@
--- A word and a number, each with the byte that ends its field.
-use Prim.Native.Nat.{ℕ, ◌+◌, ◌≤◌, ◌<◌}
+-- A text put behind what stands in a buffer already.
+use Prim.Native.Nat.{ℕ, ◌+◌, ◌≤◌}
 use native.Mathlib.Omega.{arith}
-use mathlib.Core.Path.{◌≡◌}
-use mathlib.Core.List.{List, [], ◌∷◌, ◌++◌}
-use lib.ListN.{length}
-use Rattle.decimal.specs.Text.{decimal}
-use Rattle.decimal.specs.Write.{put, wrote, Puts}
-use Rattle.std.specs.Prelude.{Option, Some, None}
-use Rattle.decimal.proofs.Putting.{puts_one, puts_next, puts_full, puts_length, puts_then}
-use Rattle.decimal.proofs.Digits.{decimal_64}
+use mathlib.Core.Path.{◌≡◌, refl, sym, ap, ◌∙◌}
+use mathlib.Core.List.{List, ◌++◌}
+use borrow.Author.Tests.{le-leb}
+use lib.ListN.{length, take, drop, length-append}
+use lib.Seq.{take-append_seam, length-take-le}
+use Rattle.std.specs.Prelude.{Option, Some}
+use Rattle.decimal.specs.Write.{put, wrote}
+use Rattle.decimal.proofs.Writing.{put-room}
 
--- ---- a word, and the byte behind it
+module _ (b : List ℕ) (at : ℕ) (t : List ℕ) {old : List ℕ} (stands : take at b ≡ old) (within : at ≤ length b) (room : length old + length t ≤ length b) where
+  length_old : length old ≡ at
+  length_old = sym (ap length stands) ∙ length-take-le at b within
 
-module _ (b : List ℕ) (at : ℕ) (s : List ℕ) {c d : List ℕ} (then : ℕ) (p : c ≡ put b at s) (room : at + length s + 1 ≤ length b) (e : d ≡ put c (at + length s) (then ∷ [])) where
-  pub word_put : Puts b d at (s ++ (then ∷ [])) (at + length s + 1)
-  word_put =
-      let word : Puts b c at s (at + length s) = puts_one (omega arith) p in
-      puts_then word (puts_one (omega (arith, puts_length word)) e)
+  fits : at + length t ≤ length b
+  fits = omega (arith, length_old)
 
--- ---- a number, and the byte behind it
+  pub put_some : {w : Option ℕ} → w ≡ wrote b at t → w ≡ Some (at + length t)
+  unfolding wrote
+  put_some p = p ∙ rw (le-leb (at + length t) (length b) fits) refl
 
-module _ (b : List ℕ) (at n : ℕ) (room : at + 21 ≤ length b) (small : n < 18446744073709551616) {c : List ℕ} {w : Option ℕ} (p : (w ≡ wrote b at (decimal n)) × (c ≡ put b at (decimal n))) where
-  pub number-full : w ≡ None → ⊥
-  number-full q = puts_full b at (decimal n) p.0 (omega (arith, decimal_64 n small)) q
+  module _ {w : Option ℕ} {e : ℕ} (p : w ≡ wrote b at t) (q : w ≡ Some e) where
+    place : e ≡ at + length t
+    place = let s : Some e ≡ Some (at + length t) = sym q ∙ put_some p in cc
 
-  module _ {e : ℕ} (q : w ≡ Some e) where
-    digits : Puts b c at (decimal n) e
-    digits = puts_next b at (decimal n) p.0 p.1 q
+    pub put_within : e ≤ length b
+    put_within = omega (arith, place, fits)
 
-    pub number-end : e + 1 ≤ at + 21
-    number-end = omega (arith, digits.place, decimal_64 n small)
-
-    pub number_put : {d : List ℕ} (then : ℕ) → d ≡ put c e (then ∷ []) → (Puts b d at (decimal n ++ (then ∷ [])) (e + 1)) × (e + 1 ≤ at + 21)
-    number_put then f = (puts_then digits (puts_one (omega (arith, puts_length digits, number-end)) f), number-end)
+    pub put_behind : {c : List ℕ} → c ≡ put b at t → take e c ≡ old ++ t
+    put_behind f =
+        let k : at + length t ≡ length (take at b ++ t) = omega (arith, length-append (take at b) t, length-take-le at b within) in
+        ap (take e) (f ∙ put-room b at t fits)
+        ∙ ap (λ (n : ℕ). take n (take at b ++ t ++ drop (at + length t) b)) (place ∙ k)
+        ∙ take-append_seam (take at b ++ t) (drop (at + length t) b)
+        ∙ ap (λ (s : List ℕ). s ++ t) stands

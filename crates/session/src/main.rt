@@ -20,11 +20,12 @@ const INPUT: usize = 4096;
 
 const OUTPUT: usize = 8192;
 
-// A table, the line that is read so far, and the replies that are not written yet.
+// A table, the line that is read so far, the room for a message, and the replies that are not written yet.
 #[derive(Drop)]
 struct Session {
     table: Table,
     line: ArrayVec<u8, LINE>,
+    room: [u8; REPLY],
     replies: ArrayVec<u8, OUTPUT>,
 }
 
@@ -33,6 +34,7 @@ impl Session {
         Session {
             table: Table::open(),
             line: ArrayVec::new(),
+            room: [0; REPLY],
             replies: ArrayVec::new(),
         }
     }
@@ -72,20 +74,20 @@ impl Session {
             self.write_replies(rt)?;
         }
         if self.line.is_full() {
-            self.line.clear();
-            return self.replies.write_all(b"unknown\n");
+            self.replies.write_all(b"unknown\n")?;
+        } else {
+            self.line.push(b'\n');
+            self.answer()?;
         }
-        self.line.push(b'\n');
-        self.answer()
+        self.line.clear();
+        Ok(())
     }
 
     fn answer(&mut self) -> io::Result<()> {
-        let line = self.line.take();
-        let Some(step) = step_of(line.as_slice()) else {
+        let Some(step) = step_of(self.line.as_slice()) else {
             return self.replies.write_all(b"unknown\n");
         };
-        let mut room = [0u8; REPLY];
-        match self.table.play(step, &mut room) {
+        match self.table.play(step, &mut self.room) {
             Ok(reply) => reply.write(&mut self.replies),
             Err(refusal) => writeln!(self.replies, "refused {}", refusal.number()),
         }

@@ -1,5 +1,6 @@
 // The replies of a session's steps, and the line that docs/SESSION.md gives each.
-use crate::table::Reading;
+use comparison::Behind;
+use master::Reading;
 use std::io::Write;
 use std::{fmt, io};
 use units::{Ordinal, Rule, Stamp, Version};
@@ -22,7 +23,7 @@ pub(crate) enum Reply<'a> {
     Copy,
     Take,
     Look(Version),
-    Compare(u64, u32, u32),
+    Compare(Behind),
 }
 
 impl Reply<'_> {
@@ -46,7 +47,7 @@ impl Reply<'_> {
             Reply::Copy => writeln!(out, "copy"),
             Reply::Take => writeln!(out, "take"),
             Reply::Look(v) => writeln!(out, "look {}", Held(v)),
-            Reply::Compare(word, keys, lowest) => {
+            Reply::Compare(Behind { word, keys, lowest }) => {
                 writeln!(out, "compare {word} {keys} {lowest}")
             }
         }

@@ -1,5 +1,4 @@
 // A line of a session as a step: a word and the numbers behind it, parted by one space, the numbers in their plain form (docs/SESSION.md).
-use decimal::{Natural, Signed};
 use units::{Ordinal, Stamp};
 
 // The text of Take is the message, with the line's own newline.
@@ -74,16 +73,16 @@ fn bound(word: Option<&[u8]>) -> Option<u16> {
 // A word that is a number from its first byte to its last.
 fn number(word: Option<&[u8]>) -> Option<u32> {
     let word = word?;
-    match decimal::natural_at(word, 0, 0, u64::from(u32::MAX)) {
-        Natural::Number(n, end) if end == word.len() => u32::try_from(n).ok(),
+    match decimal::natural_at(word, 0, 0, u64::from(u32::MAX))? {
+        (n, end) if end == word.len() => u32::try_from(n).ok(),
         _ => None,
     }
 }
 
 fn value(word: Option<&[u8]>) -> Option<i32> {
     let word = word?;
-    match decimal::signed_at(word, 0) {
-        Signed::Number(n, end) if end == word.len() => Some(n),
+    match decimal::signed_at(word, 0)? {
+        (n, end) if end == word.len() => Some(n),
         _ => None,
     }
 }
