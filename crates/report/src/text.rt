@@ -39,6 +39,7 @@ impl<const N: usize> Text<N> {
         &self.buffer[..self.end]
     }
 
+    #[tactic(auto, using(crate::proofs::Putting::put_some, crate::proofs::Putting::put_within, crate::proofs::Putting::put_behind))]
     fn word(&mut self, word: &[u8])
         requires { length self.old + length word.now ≤ N }
         ensures { self.new ≡ self.old ++ word.now }
@@ -46,6 +47,7 @@ impl<const N: usize> Text<N> {
         self.end = put_text(&mut self.buffer, self.end, word).unwrap();
     }
 
+    #[tactic(auto, using(crate::proofs::Putting::put_some, crate::proofs::Putting::put_within, crate::proofs::Putting::put_behind, decimal::proofs::Digits::decimal_64))]
     fn number(&mut self, n: u64)
         requires { length self.old + 20 ≤ N }
         ensures text { self.new ≡ self.old ++ decimal n }
