@@ -132,7 +132,9 @@ fn answer_note(
     if t.pending(key).is_some() {
         return Err(Refusal::KeyWritten);
     }
-    let v = versions::look_up(memory, key, ordinal).ok_or(Refusal::NoVersion)?;
+    let Some(v) = versions::look_up(memory, key, ordinal) else {
+        return Err(Refusal::NoVersion);
+    };
     has_room(&t)?;
     Ok(Reading::Version(v))
 }
