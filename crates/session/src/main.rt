@@ -57,13 +57,12 @@ impl Session {
         self.write_replies(rt)
     }
 
-    // A line that is too long fills its room.
+    // A line that is too long loses what does not go in, and its newline with that.
     fn hear(&mut self, rt: &impl Print, input: &[u8]) -> io::Result<()> {
-        for b in input {
-            if *b == b'\n' {
+        for part in input.split_inclusive(|b| *b == b'\n') {
+            self.line.write(part)?;
+            if part.ends_with(b"\n") {
                 self.play_line(rt)?;
-            } else if !self.line.is_full() {
-                self.line.push(*b);
             }
         }
         Ok(())
@@ -73,12 +72,7 @@ impl Session {
         if self.replies.remaining_capacity() <= REPLY {
             self.write_replies(rt)?;
         }
-        if self.line.is_full() {
-            self.replies.write_all(b"unknown\n")?;
-        } else {
-            self.line.push(b'\n');
-            self.answer()?;
-        }
+        self.answer()?;
         self.line.clear();
         Ok(())
     }

@@ -21,11 +21,13 @@ pub(crate) enum Step<'a> {
     Compare,
 }
 
+// A line without its newline is too long.
 pub(crate) fn step_of(line: &[u8]) -> Option<Step<'_>> {
-    if let Some(text) = line.strip_prefix(b"take ") {
-        return Some(Step::Take(text));
+    let text = line.strip_suffix(b"\n")?;
+    if let Some(message) = line.strip_prefix(b"take ") {
+        return Some(Step::Take(message));
     }
-    let mut words = line.strip_suffix(b"\n")?.split(|b| *b == b' ');
+    let mut words = text.split(|b| *b == b' ');
     let step = match words.next()? {
         b"open" => Step::Open(stamp(words.next())?),
         b"start" => Step::Start,
