@@ -26,11 +26,11 @@ returns-in_err-e c =
     (there (goal.at.returns-in_err-e c).After-comes_to) c.in_err-e.ensures refl refl
     ∙ c.loop-e.invariant.rest)
 
-pub returns-in_default : goal.returns-in_default
+pub returns : goal.returns
 unfolding after_take words_after is_over
-returns-in_default c =
+returns c =
     turn_over c.args.text.now c.loop-e.reader.at c.loop-e.line c.loop-e.totals c.loop-e.memory c.next.result came_end came_end
-    (there (goal.at.returns-in_default c).After-comes_to) (rw c.in_default.is at c.in_ok-e.ensures) refl refl
+    (there (goal.at.returns c).After-comes_to) (rw c.in_default.is at c.in_ok-e.ensures) refl refl
     ∙ c.loop-e.invariant.rest
 
 pub returns-in_err-map_err : goal.returns-in_err-map_err
