@@ -1,12 +1,17 @@
 -- The searches and counts of these papers are the library's: what an iterator chain answers, in the words of `Lists`.
-use Prim.Native.Nat.{suc, ◌+◌}
+use Prim.Native.Nat.{suc, ◌+◌, ◌≤◌}
 use native.Mathlib.Omega.{arith}
-use mathlib.Core.Path.{◌≡◌, refl, ap}
-use mathlib.Core.Bool.{Bool, cond}
+use mathlib.Core.Path.{◌≡◌, refl, sym, ap}
+use mathlib.Core.Bool.{Bool, true, false, cond}
 use mathlib.Core.List.{List, [], ◌∷◌}
-use Rattle.std.specs.List.{position_or_len, count_by}
+use lib.Dec.{ltb}
+use borrow.Author.Tests.{ltb-false}
+use lib.ListN.{length}
+use Rattle.std.specs.Prelude.{Some, None, unwrap_or}
+use Rattle.std.specs.List.{position, position_or_len, count_by}
 use Rattle.std.proofs.lemmas.List.Recursion.{is_position_or_len, is_count_by}
 use Rattle.lists.specs.Lists.{find, count}
+use Rattle.lists.proofs.Find.{find_le}
 
 module _ {A : Type 0} (p : A → Bool) where
   -- the place that `position` answers, or the length
@@ -19,6 +24,14 @@ module _ {A : Type 0} (p : A → Bool) where
 
       step : (x : A) (xs : List A) → find p (x ∷ xs) ≡ cond (p x) 0 (1 + find p xs)
       step x xs = let e : suc (find p xs) ≡ 1 + find p xs = omega arith in ap (cond (p x) 0) e
+
+  -- the same with the length where there is none
+  pub find-unwrapped : (l : List A) → unwrap_or (position p l) (length l) ≡ find p l
+  find-unwrapped l = go (ltb (position_or_len p l) (length l)) refl
+    where
+      go : (b : Bool) → ltb (position_or_len p l) (length l) ≡ b → unwrap_or (cond b (Some (position_or_len p l)) None) (length l) ≡ find p l
+      go true e = sym (find-position l)
+      go false e = let h : length l ≤ position_or_len p l = ltb-false _ _ e in let k : find p l ≤ length l = find_le p l in let f : find p l ≡ position_or_len p l = find-position l in omega arith
 
   -- what `filter(..).count()` answers
   pub count-by : (l : List A) → count p l ≡ count_by p l

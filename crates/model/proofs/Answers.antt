@@ -1,9 +1,6 @@
 -- What each call answers where it is not refused. Every state is taken.
 use Prim.Native.Nat.{ℕ}
-use Rattle.units.specs.declared.Found.{Found}
-use Rattle.units.specs.declared.Found.TheVariants.{At, Absent}
-use Rattle.transaction.specs.declared.Pending.{Pending}
-use Rattle.transaction.specs.declared.Pending.TheVariants.{Value, Nothing}
+use Rattle.std.specs.Prelude.{Option, Some, None, ℤ}
 use Rattle.transaction.specs.Transaction.{pending_of}
 use Rattle.model.specs.Log.{look_up, newest}
 use Rattle.model.specs.State.{State, transaction}
@@ -13,18 +10,19 @@ use Rattle.model.specs.Step.{Step, checks_of, final_of}
 use Rattle.model.specs.Changes.{Answers, refuses, starts, reads, own_reads, notes, writes, tunes, distances, ends, commits, breaks, messages, newests}
 use Rattle.model.proofs.Order.{order_by, order-end}
 use Rattle.model.proofs.Refusals.{commit_cases}
+use Rattle.units.specs.declared.Version.{Version}
 
 module _ (s : State) where
   abbrev Kind : Call → Step → Type 0
   Kind c d = Answers c d.reply
 
-  read_kind : (n k : ℕ) (p : Pending) → Kind (Read n k) (step.reads s n k p)
-  read_kind n k (Value v) = own_reads v
-  read_kind n k Nothing = reads (newest s.log k)
+  read_kind : (n k : ℕ) (p : Option ℤ) → Kind (Read n k) (step.reads s n k p)
+  read_kind n k (Some v) = own_reads v
+  read_kind n k None = reads (newest s.log k)
 
-  note_kind : (n k o : ℕ) (f : Found) → Kind (Note n k o) (step.notes s n k f)
-  note_kind n k o (At v) = notes v
-  note_kind n k o Absent = refuses 7
+  note_kind : (n k o : ℕ) (f : Option Version) → Kind (Note n k o) (step.notes s n k f)
+  note_kind n k o (Some v) = notes v
+  note_kind n k o None = refuses 7
 
   -- a refusal, or what the call is for
   pub answers_kind : (c : Call) → Answers c (step.step s c).reply

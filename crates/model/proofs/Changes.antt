@@ -16,13 +16,10 @@ use Rattle.lists.proofs.Find.{find-holds, find_first}
 use Rattle.lists.proofs.Members.{every_in, in_map, get_or_in}
 use Rattle.units.specs.Bounds.{triple}
 use Rattle.units.specs.declared.Version.{Version}
-use Rattle.units.specs.declared.Found.{Found}
-use Rattle.units.specs.declared.Found.TheVariants.{At, Absent}
+use Rattle.std.specs.Prelude.{Option, Some, None}
 use Rattle.units.specs.declared.rule.Rule.{Rule}
 use Rattle.transaction.specs.declared.Write as pending
 use Rattle.transaction.specs.declared.Transaction.{Transaction}
-use Rattle.transaction.specs.declared.Pending.{Pending}
-use Rattle.transaction.specs.declared.Pending.TheVariants.{Value, Nothing}
 use Rattle.transaction.specs.Transaction.{fresh, tuned, ended, recorded, written, wrote_at, is_key, pending_of, writes_of, no_write}
 use Rattle.model.specs.Log.{newest, look_up}
 use Rattle.model.specs.State.{State, no_transaction, at_place, place_of, nobody, transaction, free_place, with_transaction}
@@ -41,7 +38,7 @@ use Rattle.model.proofs.Desk.{standing, not_nobody, found, of_found, underway-at
 use Rattle.model.proofs.Refusals.{commit_cases}
 
 -- a pending value is that of a written key
-value_written : (t : Transaction) (k : ℕ) (v : ℤ) → pending_of t k ≡ Value v → In (record { key = k; value = v }) (writes_of t)
+value_written : (t : Transaction) (k : ℕ) (v : ℤ) → pending_of t k ≡ Some v → In (record { key = k; value = v }) (writes_of t)
 unfolding pending_of wrote_at
 value_written t k v = go (ltb (find (is_key k) (writes_of t)) (length (writes_of t))) refl
   where
@@ -51,7 +48,7 @@ value_written t k v = go (ltb (find (is_key k) (writes_of t)) (length (writes_of
     at : pending.Write
     at = get_or (writes_of t) (find (is_key k) (writes_of t)) no_write
 
-    go : (b : Bool) → ltb (find (is_key k) (writes_of t)) (length (writes_of t)) ≡ b → cond b (Value at.value) Nothing ≡ Value v → In (record { key = k; value = v }) (writes_of t)
+    go : (b : Bool) → ltb (find (is_key k) (writes_of t)) (length (writes_of t)) ≡ b → cond b (Some at.value) None ≡ Some v → In (record { key = k; value = v }) (writes_of t)
     go true h e =
         let l = ltb-true (find (is_key k) (writes_of t)) (length (writes_of t)) h in
         let z : at.value ≡ v = cc in
@@ -141,9 +138,9 @@ module _ {opening : ℕ} (s : State) (g : Good opening s) where
           P : Step → Type 0
           P d = d.reply ≡ version v → NewestOf s.log k v × Becomes s n (Records (marked k v)) d.state × Unmoved s d.state
 
-          go : nobody s n ≡ false → (p : Pending) → (not (has_written p) && reads_full (transaction s n)) ≡ false → P (reads s n k p)
-          go known (Value w) full e = other e tt
-          go known Nothing full e =
+          go : nobody s n ≡ false → (p : Option ℤ) → (not (has_written p) && reads_full (transaction s n)) ≡ false → P (reads s n k p)
+          go known (Some w) full e = other e tt
+          go known None full e =
               let z : newest s.log k ≡ v = cc in
               (rw (← z) (newest_is (chain g.history) k), rw (← z) (records (newest s.log k) known full), still (recorded (transaction s n) (marked k (newest s.log k))))
 
@@ -163,9 +160,9 @@ module _ {opening : ℕ} (s : State) (g : Good opening s) where
           P : Step → Type 0
           P d = d.reply ≡ own v → Of s n Q × (d.state ≡ s)
 
-          go : nobody s n ≡ false → (p : Pending) → pending_of (transaction s n) k ≡ p → P (reads s n k p)
-          go known (Value w) q e = let z : w ≡ v = cc in ((of_found s g n known Q).0 (rw (← z) (value_written (transaction s n) k w q)), refl)
-          go known Nothing q e = other e tt
+          go : nobody s n ≡ false → (p : Option ℤ) → pending_of (transaction s n) k ≡ p → P (reads s n k p)
+          go known (Some w) q e = let z : w ≡ v = cc in ((of_found s g n known Q).0 (rw (← z) (value_written (transaction s n) k w q)), refl)
+          go known None q e = other e tt
 
       -- "A note records a version .. by key and ordinal; the master looks it up and believes nothing else, and answers that version"
       pub note-records : (o : ℕ) (v : Version) → (step s (Note n k o)).reply ≡ version v
@@ -182,11 +179,11 @@ module _ {opening : ℕ} (s : State) (g : Good opening s) where
           P : Step → Type 0
           P d = d.reply ≡ version v → Numbered s.log k o v × Becomes s n (Records (marked k v)) d.state × Unmoved s d.state
 
-          go : nobody s n ≡ false → (f : Found) → look_up s.log k o ≡ f → reads_full (transaction s n) ≡ false → P (notes s n k f)
-          go known (At w) q full e =
+          go : nobody s n ≡ false → (f : Option Version) → look_up s.log k o ≡ f → reads_full (transaction s n) ≡ false → P (notes s n k f)
+          go known (Some w) q full e =
               let z : w ≡ v = cc in
-              ((found_exactly k o (chain g.history) v).0 (q ∙ ap At z), rw (← z) (records w known full), still (recorded (transaction s n) (marked k w)))
-          go known Absent q full e = other e tt
+              ((found_exactly k o (chain g.history) v).0 (q ∙ ap Some z), rw (← z) (records w known full), still (recorded (transaction s n) (marked k w)))
+          go known None q full e = other e tt
 
       -- "A second write of a key replaces the value and takes no new place"
       pub write_puts : (v : ℤ) → (step s (Write n k v)).reply ≡ done → Becomes s n (Rewrites k v) (step s (Write n k v)).state × Unmoved s (step s (Write n k v)).state
@@ -245,7 +242,7 @@ sole_write w (y ∷ ws) (apart h d) (below i) =
     rw (ne_eqb y.key w.key (λ q. every_in h (in_map (λ (x : pending.Write). x.key) i) (sym q)))
     (let r = sole_write w ws d i in (omega arith, r.1))
 
-pending-value : (t : Transaction) (k : ℕ) (v : ℤ) → Distinct (keys_of (writes_of t)) → In (record { key = k; value = v }) (writes_of t) → pending_of t k ≡ Value v
+pending-value : (t : Transaction) (k : ℕ) (v : ℤ) → Distinct (keys_of (writes_of t)) → In (record { key = k; value = v }) (writes_of t) → pending_of t k ≡ Some v
 unfolding pending_of wrote_at
 pending-value t k v d i = let r = sole_write (record { key = k; value = v }) (writes_of t) d i in rw (lt-ltb _ _ r.0, r.1)
 

@@ -3,10 +3,7 @@ use Prim.Native.Nat.{ℕ, suc, ◌≤◌, ◌<◌}
 use native.Mathlib.Omega.{arith}
 use mathlib.Core.Path.{◌≡◌, refl, sym, ◌∙◌}
 use mathlib.Core.List.{List, [], ◌∷◌}
-use Rattle.units.specs.declared.Found.{Found}
-use Rattle.units.specs.declared.Found.TheVariants.{At, Absent}
-use Rattle.transaction.specs.declared.Pending.{Pending}
-use Rattle.transaction.specs.declared.Pending.TheVariants.{Value, Nothing}
+use Rattle.std.specs.Prelude.{Option, Some, None, ℤ}
 use Rattle.transaction.specs.Transaction.{pending_of}
 use Rattle.model.specs.Log.{look_up}
 use Rattle.model.specs.State.{State, transaction}
@@ -15,14 +12,15 @@ use Rattle.model.specs.Step.{step, final_of, reads, notes}
 use Rattle.model.specs.Session.{reached}
 use Rattle.model.specs.Clock.{Takes, Clocked, takes, stays}
 use Rattle.model.proofs.Refusals.{step_cases}
+use Rattle.units.specs.declared.Version.{Version}
 
-clocked_reads : (s : State) (n k : ℕ) (p : Pending) → Clocked s (reads s n k p)
-clocked_reads s n k (Value v) = stays (λ m h. h) refl
-clocked_reads s n k Nothing = stays (λ m h. h) refl
+clocked_reads : (s : State) (n k : ℕ) (p : Option ℤ) → Clocked s (reads s n k p)
+clocked_reads s n k (Some v) = stays (λ m h. h) refl
+clocked_reads s n k None = stays (λ m h. h) refl
 
-clocked_notes : (s : State) (n k : ℕ) (f : Found) → Clocked s (notes s n k f)
-clocked_notes s n k (At v) = stays (λ m h. h) refl
-clocked_notes s n k Absent = stays (λ m h. h) refl
+clocked_notes : (s : State) (n k : ℕ) (f : Option Version) → Clocked s (notes s n k f)
+clocked_notes s n k (Some v) = stays (λ m h. h) refl
+clocked_notes s n k None = stays (λ m h. h) refl
 
 clocked_final : (s : State) (c : Call) → Clocked s (final_of s c)
 unfolding final_of

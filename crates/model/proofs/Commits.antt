@@ -8,8 +8,7 @@ use lib.ListN.{length}
 use borrow.Author.Tests.{ltb-false, le-ltb, eqb-false, ne_eqb}
 use Rattle.lists.specs.Lists.{Every, none, also}
 use Rattle.units.specs.declared.rule.Rule.{Rule}
-use Rattle.units.specs.declared.rule.Certified.{Certified}
-use Rattle.units.specs.declared.rule.Certified.TheVariants.{Whole, Broken}
+use Rattle.std.specs.Prelude.{Result, Ok, Err}
 use Rattle.transaction.specs.declared.Transaction.{Transaction}
 use Rattle.transaction.specs.Transaction.{writes_of}
 use Rattle.model.specs.Rules.{certified}
@@ -26,11 +25,11 @@ use Rattle.model.proofs.Desk.{standing, not_nobody, found, of_found}
 use Rattle.model.proofs.Refusals.{commit_cases}
 
 -- where the search for a broken rule fails it found none
-no_abort : (s : State) (n : ℕ) (c : Certified) → (aborts s n c).holds ≡ false → c ≡ Whole
-no_abort s n Whole e = refl
-no_abort s n (Broken r) e = absurd (false≢true (sym e))
+no_abort : (s : State) (n : ℕ) (c : Result (Unit {0}) Rule) → (aborts s n c).holds ≡ false → c ≡ Ok tt
+no_abort s n (Ok u) e = refl
+no_abort s n (Err r) e = absurd (false≢true (sym e))
 
-abort-fails : (s : State) (n : ℕ) {c : Certified} → c ≡ Whole → Fails (aborts s n c)
+abort-fails : (s : State) (n : ℕ) {c : Result (Unit {0}) Rule} → c ≡ Ok tt → Fails (aborts s n c)
 abort-fails s n e = rw e
 
 module _ {opening : ℕ} (s : State) (g : Good opening s) (n : ℕ) where
@@ -74,14 +73,14 @@ module _ {opening : ℕ} (s : State) (g : Good opening s) (n : ℕ) where
   granted_exactly m = (λ e. (free (passed m e).0, (passed m e).1), λ g. ap (λ (d : Step). d.reply) (granted-step g.0) ∙ ap committed (sym g.1))
 
   -- the answer "aborted" is that of the rules, of an open transaction
-  broke : (r : Rule) → (step s (Commit n)).reply ≡ aborted r → (nobody s n ≡ false) × (certified s.log (transaction s n) ≡ Broken r)
+  broke : (r : Rule) → (step s (Commit n)).reply ≡ aborted r → (nobody s n ≡ false) × (certified s.log (transaction s n) ≡ Err r)
   broke r =
-      commit_cases (λ (d : Step). d.reply ≡ aborted r → (nobody s n ≡ false) × (certified s.log (transaction s n) ≡ Broken r)) s n
+      commit_cases (λ (d : Step). d.reply ≡ aborted r → (nobody s n ≡ false) × (certified s.log (transaction s n) ≡ Err r)) s n
       (λ q e. other e tt)
       (λ known x q e. (known, q ∙ cc))
       (λ h e. other e tt)
 
-  breaks : (r : Rule) → nobody s n ≡ false → certified s.log (transaction s n) ≡ Broken r → (step s (Commit n)).reply ≡ aborted r
+  breaks : (r : Rule) → nobody s n ≡ false → certified s.log (transaction s n) ≡ Err r → (step s (Commit n)).reply ≡ aborted r
   unfolding step checks_of final_of order
   breaks r known e = rw (known, e)
 

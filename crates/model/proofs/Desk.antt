@@ -15,7 +15,7 @@ use Rattle.lists.proofs.Every.{every_at, at_every, find_none, none_found}
 use Rattle.lists.proofs.Members.{every_in, in_map, get_or_in}
 use Rattle.transaction.specs.declared.Write.{Write}
 use Rattle.transaction.specs.declared.Transaction.{Transaction}
-use Rattle.transaction.specs.declared.Pending.TheVariants.{Value, Nothing}
+use Rattle.std.specs.Prelude.{Some, None}
 use Rattle.transaction.specs.Transaction.{is_key, wrote_at, pending_of, reads_of, writes_of, no_write}
 use Rattle.model.specs.Log.{Entry}
 use Rattle.model.specs.State.{State, no_transaction, at_place, goes_by, place_of, nobody, transaction, free_place}
@@ -117,7 +117,7 @@ module _ (t : Transaction) (k : ℕ) where
   unfolding pending_of
   wrote_tests = (λ e. go (ltb (wrote_at t k) (length (writes_of t))) refl e, λ i. rw (lt-ltb _ _ (wrote_found.1 i)))
     where
-      go : (b : Bool) → ltb (wrote_at t k) (length (writes_of t)) ≡ b → has_written (cond b (Value (get_or (writes_of t) (wrote_at t k) no_write).value) Nothing) ≡ true → Wrote k t
+      go : (b : Bool) → ltb (wrote_at t k) (length (writes_of t)) ≡ b → has_written (cond b (Some (get_or (writes_of t) (wrote_at t k) no_write).value) None) ≡ true → Wrote k t
       go true e h = wrote_found.0 (ltb-true _ _ e)
       go false e h = absurd (false≢true h)
 

@@ -13,8 +13,7 @@ use Rattle.lists.specs.Members.{here, below}
 use Rattle.lists.proofs.Members.{every_in}
 use Rattle.units.specs.Version.{start_version}
 use Rattle.units.specs.declared.Version.{Version}
-use Rattle.units.specs.declared.Found.{Found}
-use Rattle.units.specs.declared.Found.TheVariants.{At, Absent}
+use Rattle.std.specs.Prelude.{Option, Some, None}
 use Rattle.model.specs.Log.{Entry, version_of, logged, look_up}
 use Rattle.model.specs.Step.{is_absent}
 use Rattle.model.specs.Reached.{Chain, Numbered, first, later}
@@ -26,23 +25,23 @@ module _ (k o : ℕ) where
   abbrev Other : Entry → Type 0
   Other e = ¬ ((e.key ≡ k) × (e.ordinal ≡ o))
 
-  none-logged : {log : List Entry} → Every Other log → logged log k o ≡ Absent
+  none-logged : {log : List Entry} → Every Other log → logged log k o ≡ None
   unfolding logged
   none-logged none = refl
   none-logged (also {x = e} {xs = es} h hs) = go (eqb e.key k) refl (eqb e.ordinal o) refl (none-logged hs)
     where
-      go : (a : Bool) → eqb e.key k ≡ a → (b : Bool) → eqb e.ordinal o ≡ b → logged es k o ≡ Absent → cond (a && b) (At (version_of e)) (logged es k o) ≡ Absent
+      go : (a : Bool) → eqb e.key k ≡ a → (b : Bool) → eqb e.ordinal o ≡ b → logged es k o ≡ None → cond (a && b) (Some (version_of e)) (logged es k o) ≡ None
       go true p true q r = absurd (h (eqb-true _ _ p, eqb-true _ _ q))
       go true p false q r = r
       go false p b q r = r
 
-  logged_none : (log : List Entry) → logged log k o ≡ Absent → Every Other log
+  logged_none : (log : List Entry) → logged log k o ≡ None → Every Other log
   unfolding logged
   logged_none [] h = none
   logged_none (e ∷ es) h = go (eqb e.key k) refl (eqb e.ordinal o) refl (logged_none es) h
     where
-      go : (a : Bool) → eqb e.key k ≡ a → (b : Bool) → eqb e.ordinal o ≡ b → (logged es k o ≡ Absent → Every Other es)
-          → cond (a && b) (At (version_of e)) (logged es k o) ≡ Absent → Every Other (e ∷ es)
+      go : (a : Bool) → eqb e.key k ≡ a → (b : Bool) → eqb e.ordinal o ≡ b → (logged es k o ≡ None → Every Other es)
+          → cond (a && b) (Some (version_of e)) (logged es k o) ≡ None → Every Other (e ∷ es)
       go true p true q r h = let z : ◌≡◌ {A = ℕ} 0 1 = cc in absurd (omega arith)
       go true p false q r h = also (λ x. eqb-false _ _ q x.1) (r h)
       go false p b q r h = also (λ x. eqb-false _ _ p x.0) (r h)
@@ -51,32 +50,32 @@ module _ (k o : ℕ) where
   further (first z) = first z
   further (later f i p q) = later f (below i) p q
 
-  logged_found : (log : List Entry) (v : Version) → logged log k o ≡ At v → Numbered log k o v
+  logged_found : (log : List Entry) (v : Version) → logged log k o ≡ Some v → Numbered log k o v
   unfolding logged
   logged_found [] v h = let z : ◌≡◌ {A = ℕ} 0 1 = cc in absurd (omega arith)
   logged_found (e ∷ es) v h = go (eqb e.key k) refl (eqb e.ordinal o) refl (logged_found es v) h
     where
-      go : (a : Bool) → eqb e.key k ≡ a → (b : Bool) → eqb e.ordinal o ≡ b → (logged es k o ≡ At v → Numbered es k o v)
-          → cond (a && b) (At (version_of e)) (logged es k o) ≡ At v → Numbered (e ∷ es) k o v
+      go : (a : Bool) → eqb e.key k ≡ a → (b : Bool) → eqb e.ordinal o ≡ b → (logged es k o ≡ Some v → Numbered es k o v)
+          → cond (a && b) (Some (version_of e)) (logged es k o) ≡ Some v → Numbered (e ∷ es) k o v
       go true p true q r h = let z : version_of e ≡ v = cc in rw (← z) (later e here (eqb-true _ _ p) (eqb-true _ _ q))
       go true p false q r h = further (r h)
       go false p b q r h = further (r h)
 
   -- "7: note: the key has no such ordinal". Every log is taken.
-  pub absent_exactly : (log : List Entry) → (look_up log k o ≡ Absent) ↔ NoOrdinal log k o
+  pub absent_exactly : (log : List Entry) → (look_up log k o ≡ None) ↔ NoOrdinal log k o
   unfolding look_up
   absent_exactly log = (go (eqb o 0) refl, λ h. rw (ne_eqb o 0 h.0) (none-logged h.1))
     where
-      go : (b : Bool) → eqb o 0 ≡ b → cond b (At start_version) (logged log k o) ≡ Absent → NoOrdinal log k o
+      go : (b : Bool) → eqb o 0 ≡ b → cond b (Some start_version) (logged log k o) ≡ None → NoOrdinal log k o
       go true e h = let z : ◌≡◌ {A = ℕ} 0 1 = cc in absurd (omega arith)
       go false e h = (eqb-false _ _ e, logged_none log h)
 
   pub absent_tests : (log : List Entry) → (is_absent (look_up log k o) ≡ true) ↔ NoOrdinal log k o
   absent_tests log = (λ e. (absent_exactly log).0 (told (look_up log k o) e), λ h. ap is_absent ((absent_exactly log).1 h))
     where
-      told : (f : Found) → is_absent f ≡ true → f ≡ Absent
-      told (At v) e = absurd (false≢true e)
-      told Absent e = refl
+      told : (f : Option Version) → is_absent f ≡ true → f ≡ None
+      told (Some v) e = absurd (false≢true e)
+      told None e = refl
 
   module _ {opening clock : ℕ} {log : List Entry} (c : Chain opening clock log) where
     -- of one key and one ordinal there is one version
@@ -86,11 +85,11 @@ module _ (k o : ℕ) where
     numbered_one (later e i p q) (first z) = absurd (let r = ordinal_range c i in omega arith)
     numbered_one (later e i p q) (later f j r s) = ap version_of (same-ordinal c i j (p ∙ sym r) (q ∙ sym s))
 
-    found_numbered : (v : Version) → look_up log k o ≡ At v → Numbered log k o v
+    found_numbered : (v : Version) → look_up log k o ≡ Some v → Numbered log k o v
     unfolding look_up
     found_numbered v = go (eqb o 0) refl
       where
-        go : (b : Bool) → eqb o 0 ≡ b → cond b (At start_version) (logged log k o) ≡ At v → Numbered log k o v
+        go : (b : Bool) → eqb o 0 ≡ b → cond b (Some start_version) (logged log k o) ≡ Some v → Numbered log k o v
         go true e h = let z : start_version ≡ v = cc in rw (← z) (first (eqb-true _ _ e))
         go false e h = logged_found log v h
 
@@ -99,9 +98,9 @@ module _ (k o : ℕ) where
     not_absent (later e i p q) n = every_in n.1 i (p, q)
 
     -- it finds v exactly if v is the version of the log with that key and that ordinal, or the start version for 0
-    pub found_exactly : (v : Version) → (look_up log k o ≡ At v) ↔ Numbered log k o v
+    pub found_exactly : (v : Version) → (look_up log k o ≡ Some v) ↔ Numbered log k o v
     found_exactly v = (found_numbered v, λ n. go (look_up log k o) refl n)
       where
-        go : (f : Found) → look_up log k o ≡ f → Numbered log k o v → f ≡ At v
-        go (At w) e n = ap At (numbered_one (found_numbered w e) n)
-        go Absent e n = absurd (not_absent n ((absent_exactly log).0 e))
+        go : (f : Option Version) → look_up log k o ≡ f → Numbered log k o v → f ≡ Some v
+        go (Some w) e n = ap Some (numbered_one (found_numbered w e) n)
+        go None e n = absurd (not_absent n ((absent_exactly log).0 e))

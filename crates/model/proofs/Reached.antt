@@ -15,12 +15,9 @@ use Rattle.lists.specs.Lists.{Every, none, also}
 use Rattle.lists.proofs.Every.{every_map, every_set}
 use Rattle.units.specs.Bounds.{triple}
 use Rattle.units.specs.declared.Version.{Version}
-use Rattle.units.specs.declared.Found.{Found}
-use Rattle.units.specs.declared.Found.TheVariants.{At, Absent}
+use Rattle.std.specs.Prelude.{Option, Some, None}
 use Rattle.transaction.specs.declared.Mark.{Mark}
 use Rattle.transaction.specs.declared.Transaction.{Transaction}
-use Rattle.transaction.specs.declared.Pending.{Pending}
-use Rattle.transaction.specs.declared.Pending.TheVariants.{Value, Nothing}
 use Rattle.transaction.specs.Transaction.{fresh, tuned, ended, recorded, written, wrote_at, pending_of, writes_of}
 use Rattle.model.specs.Log.{newest, look_up}
 use Rattle.model.specs.State.{State, opened, no_transaction, place_of, nobody, transaction, free_place, with_transaction}
@@ -137,13 +134,13 @@ module _ {opening : ℕ} (s : State) (g : Good opening s) where
           good_with (recorded (transaction s n) (marked k v)) (recorded-name (transaction s n) (marked k v))
           (seated-recorded (transaction s n) (marked k v) r (record { key = ltb-false 63 k key; stands = h }) (seat s g n known))
 
-      good_reads : (p : Pending) → (not (has_written p) && reads_full (transaction s n)) ≡ false → Good opening (reads s n k p).state
-      good_reads (Value v) e = g
-      good_reads Nothing e = good_records (newest s.log k) e (stands-newest s.log k)
+      good_reads : (p : Option ℤ) → (not (has_written p) && reads_full (transaction s n)) ≡ false → Good opening (reads s n k p).state
+      good_reads (Some v) e = g
+      good_reads None e = good_records (newest s.log k) e (stands-newest s.log k)
 
-      good_notes : (o : ℕ) (f : Found) → look_up s.log k o ≡ f → reads_full (transaction s n) ≡ false → Good opening (notes s n k f).state
-      good_notes o (At v) e full = good_records v full (stands_found s.log k o v e)
-      good_notes o Absent e full = g
+      good_notes : (o : ℕ) (f : Option Version) → look_up s.log k o ≡ f → reads_full (transaction s n) ≡ false → Good opening (notes s n k f).state
+      good_notes o (Some v) e full = good_records v full (stands_found s.log k o v e)
+      good_notes o None e full = g
 
       good_written : (v : ℤ) → wrote_at (transaction s n) k < 16 → Good opening (with_transaction s n (written (transaction s n) k v))
       good_written v h =

@@ -8,14 +8,9 @@ use mathlib.Core.Bool.{Bool, true, false, not, ◌&&◌, true≢false, false≢t
 use lib.Dec.{eqb}
 use borrow.Author.Tests.{leb-true, le-leb, ltb-true, lt-ltb, eqb-true, eq-eqb}
 use Rattle.lists.specs.Lists.{Every, none, also}
-use Rattle.units.specs.declared.Found.{Found}
-use Rattle.units.specs.declared.Found.TheVariants.{At, Absent}
+use Rattle.std.specs.Prelude.{Option, Some, None, Result, Ok, Err, ℤ}
 use Rattle.units.specs.declared.rule.Rule.{Rule}
-use Rattle.units.specs.declared.rule.Certified.{Certified}
-use Rattle.units.specs.declared.rule.Certified.TheVariants.{Whole, Broken}
 use Rattle.transaction.specs.declared.Transaction.{Transaction}
-use Rattle.transaction.specs.declared.Pending.{Pending}
-use Rattle.transaction.specs.declared.Pending.TheVariants.{Value, Nothing}
 use Rattle.transaction.specs.Transaction.{pending_of}
 use Rattle.model.specs.Log.{look_up}
 use Rattle.model.specs.Rules.{certified}
@@ -32,6 +27,7 @@ use Rattle.model.proofs.Made.{none_made}
 use Rattle.model.proofs.LookUps.{absent_tests}
 use Rattle.model.proofs.Places.{is_open, seat}
 use Rattle.model.proofs.Desk.{none_open, of_found, all_open, wrote_tests, sixteen-reads, sixteen-others}
+use Rattle.units.specs.declared.Version.{Version}
 
 -- a test with its row, over any statement that says the same
 same : {P Q R : Type 0} → P ↔ Q → Q ↔ R → P ↔ R
@@ -46,17 +42,17 @@ no_room false b p q = (λ e. (λ h. false≢true (p.1 h), q.0 e), λ h. q.1 h.1)
 broken_tests : (s : State) (n : ℕ) (t : Transaction) → ((aborts s n (certified s.log t)).holds ≡ true) ↔ (¬ Kept s.log t)
 broken_tests s n t = (λ e k. false≢true (whole ((certified_exactly s.log t).1 k) e), λ h. go h (certified s.log t) refl)
   where
-    whole : {c : Certified} → c ≡ Whole → (aborts s n c).holds ≡ true → false ≡ true
+    whole : {c : Result (Unit {0}) Rule} → c ≡ Ok tt → (aborts s n c).holds ≡ true → false ≡ true
     whole q e = rw q at e
 
-    go : ¬ Kept s.log t → (c : Certified) → certified s.log t ≡ c → (aborts s n c).holds ≡ true
-    go h Whole q = absurd (h ((certified_exactly s.log t).0 q))
-    go h (Broken r) q = refl
+    go : ¬ Kept s.log t → (c : Result (Unit {0}) Rule) → certified s.log t ≡ c → (aborts s n c).holds ≡ true
+    go h (Ok u) q = absurd (h ((certified_exactly s.log t).0 q))
+    go h (Err r) q = refl
 
 -- an abort by a rule is no refusal
-no_refusal : (s : State) (n : ℕ) (c : Certified) (m : ℕ) → ¬ ((aborts s n c).step.reply ≡ refused m)
-no_refusal s n Whole m e = other e tt
-no_refusal s n (Broken r) m e = other e tt
+no_refusal : (s : State) (n : ℕ) (c : Result (Unit {0}) Rule) (m : ℕ) → ¬ ((aborts s n c).step.reply ≡ refused m)
+no_refusal s n (Ok u) m e = other e tt
+no_refusal s n (Err r) m e = other e tt
 
 module _ {opening : ℕ} (s : State) (g : Good opening s) where
   -- the checks of a call are the rows of the document's line for it, one by one and in its order
@@ -95,13 +91,13 @@ module _ {opening : ℕ} (s : State) (g : Good opening s) where
   fits (Message t) = refuses (none_made s.log t) (λ a. over)
   fits (Newest k) = refuses (λ e. ltb-true _ _ e, λ h. lt-ltb _ _ h) (λ a. over)
 
-free-reads : (s : State) (n k : ℕ) (p : Pending) (m : ℕ) → ¬ ((reads s n k p).reply ≡ refused m)
-free-reads s n k (Value v) m e = other e tt
-free-reads s n k Nothing m e = other e tt
+free-reads : (s : State) (n k : ℕ) (p : Option ℤ) (m : ℕ) → ¬ ((reads s n k p).reply ≡ refused m)
+free-reads s n k (Some v) m e = other e tt
+free-reads s n k None m e = other e tt
 
-free-notes : (s : State) (n k : ℕ) (f : Found) → is_absent f ≡ false → (m : ℕ) → ¬ ((notes s n k f).reply ≡ refused m)
-free-notes s n k (At v) h m e = other e tt
-free-notes s n k Absent h m e = true≢false h
+free-notes : (s : State) (n k : ℕ) (f : Option Version) → is_absent f ≡ false → (m : ℕ) → ¬ ((notes s n k f).reply ≡ refused m)
+free-notes s n k (Some v) h m e = other e tt
+free-notes s n k None h m e = true≢false h
 
 -- where no check holds nothing is refused
 free_final : (s : State) (c : Call) → Every Fails (checks_of s c) → (m : ℕ) → ¬ ((final_of s c).reply ≡ refused m)
@@ -131,9 +127,9 @@ data Stopped (s : State) : Step → Type 0 where
   stops : (n : ℕ) → Stopped s (answers s (refused n))
   ends_it : (n : ℕ) (r : Rule) → Stopped s (record { reply = aborted r; state = ends s n })
 
-breaking : (s : State) (n : ℕ) (r : Certified) → (aborts s n r).holds ≡ true → Stopped s (aborts s n r).step
-breaking s n Whole e = absurd (false≢true e)
-breaking s n (Broken r) e = ends_it n r
+breaking : (s : State) (n : ℕ) (r : Result (Unit {0}) Rule) → (aborts s n r).holds ≡ true → Stopped s (aborts s n r).step
+breaking s n (Ok u) e = absurd (false≢true e)
+breaking s n (Err r) e = ends_it n r
 
 stopped : (s : State) (c : Call) → Every (λ (k : Check). k.holds ≡ true → Stopped s k.step) (checks_of s c)
 unfolding checks_of
@@ -169,9 +165,9 @@ final_stays s Start n e = other e tt
 final_stays s (Read m k) n e = absurd (free-reads s m k (pending_of (transaction s m) k) n e)
 final_stays s (Note m k o) n e = go (look_up s.log k o) e
   where
-    go : (f : Found) → (notes s m k f).reply ≡ refused n → (notes s m k f).state ≡ s
-    go (At v) e = other e tt
-    go Absent e = refl
+    go : (f : Option Version) → (notes s m k f).reply ≡ refused n → (notes s m k f).state ≡ s
+    go (Some v) e = other e tt
+    go None e = refl
 final_stays s (Write m k v) n e = other e tt
 final_stays s (Tune m k1 k2 k3) n e = other e tt
 final_stays s (Distance m i) n e = other e tt
@@ -187,7 +183,7 @@ refused-stays s c n =
 
 -- a commit is a refusal, an abort by the first broken rule, or the step where no check holds
 pub commit_cases : (P : Step → Type 0) (s : State) (n : ℕ) → ((m : ℕ) → P (answers s (refused m)))
-    → (nobody s n ≡ false → (r : Rule) → certified s.log (transaction s n) ≡ Broken r → P (record { reply = aborted r; state = ends s n }))
+    → (nobody s n ≡ false → (r : Rule) → certified s.log (transaction s n) ≡ Err r → P (record { reply = aborted r; state = ends s n }))
     → (Every Fails (checks_of s (Commit n)) → P (commits s n)) → P (step s (Commit n))
 unfolding step checks_of final_of
 commit_cases P s n not_taken broke granted =
@@ -197,6 +193,6 @@ commit_cases P s n not_taken broke granted =
     order_by P _ _ _ (λ h. not_taken 5) (λ ticks.
     order-end P _ (granted (also known (also kept (also room (also ticks none)))))))))
   where
-    go : nobody s n ≡ false → (c : Certified) → certified s.log (transaction s n) ≡ c → (aborts s n c).holds ≡ true → P (aborts s n c).step
-    go known Whole q h = absurd (false≢true h)
-    go known (Broken r) q h = broke known r q
+    go : nobody s n ≡ false → (c : Result (Unit {0}) Rule) → certified s.log (transaction s n) ≡ c → (aborts s n c).holds ≡ true → P (aborts s n c).step
+    go known (Ok u) q h = absurd (false≢true h)
+    go known (Err r) q h = broke known r q

@@ -17,8 +17,7 @@ use Rattle.lists.proofs.Every.{every_map, find_none, none_found, find_is, any_no
 use Rattle.lists.proofs.Tests.{not_tests}
 use Rattle.units.specs.declared.rule.Rule.{Rule}
 use Rattle.units.specs.declared.rule.Rule.TheVariants.{BV, FV, SV, WC}
-use Rattle.units.specs.declared.rule.Certified.{Certified}
-use Rattle.units.specs.declared.rule.Certified.TheVariants.{Whole, Broken}
+use Rattle.std.specs.Prelude.{Result, Ok, Err}
 use Rattle.transaction.specs.declared.Mark.{Mark}
 use Rattle.transaction.specs.declared.Transaction.{Transaction}
 use Rattle.transaction.specs.Transaction.{reads_of, writes_of, no_mark, no_write}
@@ -54,27 +53,27 @@ module _ {A : Type 0} (p : A → Bool) (P : A → Type 0) (tests : Tests p P) wh
   break_first l d i f = find_is p l d i f.there (fails _ f.breaks) (λ j h. (tests _).1 (f.before j h))
 
   module _ (rule : ℕ → Rule) (l : List A) where
-    whole : broken_at rule p l ≡ Whole → Every P l
+    whole : broken_at rule p l ≡ Ok tt → Every P l
     unfolding broken_at
     whole = go (ltb (find p l) (length l)) refl
       where
-        go : (t : Bool) → ltb (find p l) (length l) ≡ t → cond t (Broken (rule (find p l))) Whole ≡ Whole → Every P l
+        go : (t : Bool) → ltb (find p l) (length l) ≡ t → cond t (Err (rule (find p l))) (Ok (tt {0})) ≡ Ok (tt {0}) → Every P l
         go true e q = let z : ◌≡◌ {A = ℕ} 0 1 = cc in absurd (omega arith)
         go false e q = every_passed (none_found p l (ltb-false _ _ e))
 
-    unbroken : Every P l → broken_at rule p l ≡ Whole
+    unbroken : Every P l → broken_at rule p l ≡ Ok tt
     unfolding broken_at
     unbroken h = rw (find_none p (every_tested h), le-ltb (length l) (length l) (omega arith))
 
-    broken : (d : A) (r : Rule) → broken_at rule p l ≡ Broken r → FirstBreak P d l (find p l) × (r ≡ rule (find p l))
+    broken : (d : A) (r : Rule) → broken_at rule p l ≡ Err r → FirstBreak P d l (find p l) × (r ≡ rule (find p l))
     unfolding broken_at
     broken d r = go (ltb (find p l) (length l)) refl
       where
-        go : (t : Bool) → ltb (find p l) (length l) ≡ t → cond t (Broken (rule (find p l))) Whole ≡ Broken r → FirstBreak P d l (find p l) × (r ≡ rule (find p l))
+        go : (t : Bool) → ltb (find p l) (length l) ≡ t → cond t (Err (rule (find p l))) (Ok (tt {0})) ≡ Err r → FirstBreak P d l (find p l) × (r ≡ rule (find p l))
         go true e q = (first_break l d (ltb-true _ _ e), cc)
         go false e q = let z : ◌≡◌ {A = ℕ} 0 1 = cc in absurd (omega arith)
 
-    breaks-at : (d : A) (i : ℕ) → FirstBreak P d l i → broken_at rule p l ≡ Broken (rule i)
+    breaks-at : (d : A) (i : ℕ) → FirstBreak P d l i → broken_at rule p l ≡ Err (rule i)
     unfolding broken_at
     breaks-at d i f = rw (break_first l d i f, lt-ltb i (length l) f.there)
 
@@ -104,38 +103,38 @@ module _ (log : List Entry) (t : Transaction) where
           go false e h = refl
 
 -- the chain of the four searches
-or_whole : (a b : Certified) → (a or_else b) ≡ Whole → (a ≡ Whole) × (b ≡ Whole)
-or_whole Whole b e = (refl, e)
-or_whole (Broken r) b e = let z : ◌≡◌ {A = ℕ} 0 1 = cc in absurd (omega arith)
+or_whole : (a b : Result (Unit {0}) Rule) → (a or_else b) ≡ Ok tt → (a ≡ Ok tt) × (b ≡ Ok tt)
+or_whole (Ok u) b e = (refl, e)
+or_whole (Err r) b e = let z : ◌≡◌ {A = ℕ} 0 1 = cc in absurd (omega arith)
 
-or_next : (a b : Certified) {c : Certified} → a ≡ Whole → b ≡ c → (a or_else b) ≡ c
+or_next : (a b : Result (Unit {0}) Rule) {c : Result (Unit {0}) Rule} → a ≡ Ok tt → b ≡ c → (a or_else b) ≡ c
 or_next a b e q = rw e q
 
-or_first : (a b : Certified) {r : Rule} → a ≡ Broken r → (a or_else b) ≡ Broken r
+or_first : (a b : Result (Unit {0}) Rule) {r : Rule} → a ≡ Err r → (a or_else b) ≡ Err r
 or_first a b e = rw e
 
-or_broken : (a b : Certified) (r : Rule) → (a or_else b) ≡ Broken r → (a ≡ Broken r) ⊎ ((a ≡ Whole) × (b ≡ Broken r))
-or_broken Whole b r e = inr (refl, e)
-or_broken (Broken q) b r e = inl e
+or_broken : (a b : Result (Unit {0}) Rule) (r : Rule) → (a or_else b) ≡ Err r → (a ≡ Err r) ⊎ ((a ≡ Ok tt) × (b ≡ Err r))
+or_broken (Ok u) b r e = inr (refl, e)
+or_broken (Err q) b r e = inl e
 
 module _ (log : List Entry) (t : Transaction) where
   abbrev apart_from : ℕ → ℕ
   apart_from i = find (apart log t (get_or (reads_of t) i no_mark)) (reads_of t)
 
-  abbrev bvs : Certified
+  abbrev bvs : Result (Unit {0}) Rule
   bvs = broken_at BV (stale log t) (reads_of t)
 
-  abbrev fvs : Certified
+  abbrev fvs : Result (Unit {0}) Rule
   fvs = broken_at FV (early log t) (reads_of t)
 
-  abbrev svs : Certified
+  abbrev svs : Result (Unit {0}) Rule
   svs = broken_at (λ (i : ℕ). SV i (apart_from i)) (λ (x : Mark). any (apart log t x) (reads_of t)) (reads_of t)
 
-  abbrev wcs : Certified
+  abbrev wcs : Result (Unit {0}) Rule
   wcs = broken_at WC (overtaken log t) (writes_of t)
 
   -- "the rules hold": the search finds none broken exactly if each read, each pair and each written key keeps them
-  pub certified_exactly : (certified log t ≡ Whole) ↔ Kept log t
+  pub certified_exactly : (certified log t ≡ Ok tt) ↔ Kept log t
   unfolding certified
   certified_exactly = (
     to,
@@ -145,7 +144,7 @@ module _ (log : List Entry) (t : Transaction) where
         (unbroken _ _ (wc_tests log t) WC _ k.wc))),
   )
     where
-      to : (bvs or_else fvs or_else svs or_else wcs) ≡ Whole → Kept log t
+      to : (bvs or_else fvs or_else svs or_else wcs) ≡ Ok tt → Kept log t
       to e =
           let b = or_whole bvs _ e in
           let f = or_whole fvs _ b.1 in
@@ -158,13 +157,13 @@ module _ (log : List Entry) (t : Transaction) where
           }
 
   module _ (r : Rule) where
-    broken_bv : bvs ≡ Broken r → FirstBroken log t r
+    broken_bv : bvs ≡ Err r → FirstBroken log t r
     broken_bv e = let b = broken _ _ (bv_tests log t) BV (reads_of t) no_mark r e in rw b.1 (broke_bv _ b.0)
 
-    broken_fv : KeepsBV log t → fvs ≡ Broken r → FirstBroken log t r
+    broken_fv : KeepsBV log t → fvs ≡ Err r → FirstBroken log t r
     broken_fv k e = let b = broken _ _ (fv_tests log t) FV (reads_of t) no_mark r e in rw b.1 (broke_fv _ k b.0)
 
-    broken_sv : KeepsBV log t → KeepsFV log t → svs ≡ Broken r → FirstBroken log t r
+    broken_sv : KeepsBV log t → KeepsFV log t → svs ≡ Err r → FirstBroken log t r
     broken_sv k l e =
         let b = broken _ _ (pair_tests log t) (λ (i : ℕ). SV i (apart_from i)) (reads_of t) no_mark r e in
         rw b.1 (broke_sv _ _ k l b.0 (inner (get_or (reads_of t) _ no_mark) b.0.breaks))
@@ -177,16 +176,16 @@ module _ (log : List Entry) (t : Transaction) where
             go true e = first_break _ _ (sv_tests log t x) (reads_of t) no_mark (ltb-true _ _ e)
             go false e = absurd (h (every_passed _ _ (sv_tests log t x) (none_found _ (reads_of t) (ltb-false _ _ e))))
 
-    broken_wc : KeepsBV log t → KeepsFV log t → KeepsSV log t → wcs ≡ Broken r → FirstBroken log t r
+    broken_wc : KeepsBV log t → KeepsFV log t → KeepsSV log t → wcs ≡ Err r → FirstBroken log t r
     broken_wc k l m e = let b = broken _ _ (wc_tests log t) WC (writes_of t) no_write r e in rw b.1 (broke_wc _ k l m b.0)
 
-    finds_broken : certified log t ≡ Broken r → FirstBroken log t r
+    finds_broken : certified log t ≡ Err r → FirstBroken log t r
     unfolding certified
     finds_broken e = ⊎_elim broken_bv (λ b. let k = whole _ _ (bv_tests log t) BV _ b.0 in
         ⊎_elim (broken_fv k) (λ f. let l = whole _ _ (fv_tests log t) FV _ f.0 in
         ⊎_elim (broken_sv k l) (λ v. broken_wc k l (whole _ _ (pair_tests log t) _ _ v.0) v.1) (or_broken svs wcs r f.1)) (or_broken fvs _ r b.1)) (or_broken bvs _ r e)
 
-  broken_finds : {r : Rule} → FirstBroken log t r → certified log t ≡ Broken r
+  broken_finds : {r : Rule} → FirstBroken log t r → certified log t ≡ Err r
   unfolding certified
   broken_finds (broke_bv i b) = or_first bvs _ (breaks-at _ _ (bv_tests log t) BV _ no_mark i b)
   broken_finds (broke_fv i k b) = or_next _ _ (unbroken _ _ (bv_tests log t) BV _ k) (or_first fvs _ (breaks-at _ _ (fv_tests log t) FV _ no_mark i b))
@@ -194,7 +193,7 @@ module _ (log : List Entry) (t : Transaction) where
       or_next _ _ (unbroken _ _ (bv_tests log t) BV _ k)
       (or_next _ _ (unbroken _ _ (fv_tests log t) FV _ l)
       (or_first svs _ (breaks-at _ _ (pair_tests log t) (λ (i : ℕ). SV i (apart_from i)) _ no_mark i b
-      ∙ ap (λ (j : ℕ). Broken (SV i j)) (break_first _ _ (sv_tests log t (get_or (reads_of t) i no_mark)) (reads_of t) no_mark j c))))
+      ∙ ap (λ (j : ℕ). Err (SV i j)) (break_first _ _ (sv_tests log t (get_or (reads_of t) i no_mark)) (reads_of t) no_mark j c))))
   broken_finds (broke_wc i k l m b) =
       or_next _ _ (unbroken _ _ (bv_tests log t) BV _ k)
       (or_next _ _ (unbroken _ _ (fv_tests log t) FV _ l)
@@ -202,5 +201,5 @@ module _ (log : List Entry) (t : Transaction) where
       (breaks-at _ _ (wc_tests log t) WC _ no_write i b)))
 
   -- "an aborted answer carries the rule and the place of the first read that broke it"
-  pub broken_exactly : (r : Rule) → (certified log t ≡ Broken r) ↔ FirstBroken log t r
+  pub broken_exactly : (r : Rule) → (certified log t ≡ Err r) ↔ FirstBroken log t r
   broken_exactly r = (finds_broken r, broken_finds)

@@ -5,11 +5,8 @@ use native.Mathlib.Omega.{arith}
 use mathlib.Core.Path.{◌≡◌, refl, ◌∙◌, ap}
 use mathlib.Core.List.{List, [], ◌∷◌}
 use Rattle.lists.specs.Members.{In}
-use Rattle.units.specs.declared.Found.{Found}
-use Rattle.units.specs.declared.Found.TheVariants.{At, Absent}
+use Rattle.std.specs.Prelude.{Option, Some, None, ℤ}
 use Rattle.transaction.specs.declared.Write.{Write}
-use Rattle.transaction.specs.declared.Pending.{Pending}
-use Rattle.transaction.specs.declared.Pending.TheVariants.{Value, Nothing}
 use Rattle.transaction.specs.Transaction.{pending_of, writes_of}
 use Rattle.model.specs.Log.{Entry, look_up, installed, made_at}
 use Rattle.model.specs.State.{State, transaction}
@@ -21,18 +18,19 @@ use Rattle.model.proofs.Refusals.{step_cases}
 use Rattle.model.proofs.Clock.{clock_rises}
 use Rattle.model.proofs.Made.{made_other}
 use Rattle.model.proofs.Stands.{in_installed}
+use Rattle.units.specs.declared.Version.{Version}
 
 pub data Logs (s : State) (d : Step) : Type 0 where
   stays : d.state.log ≡ s.log → Logs s d
   installs : (ws : List Write) → d.state.log ≡ installed s.log (suc s.clock) ws → Logs s d
 
-logs_reads : (s : State) (n k : ℕ) (p : Pending) → Logs s (reads s n k p)
-logs_reads s n k (Value v) = stays refl
-logs_reads s n k Nothing = stays refl
+logs_reads : (s : State) (n k : ℕ) (p : Option ℤ) → Logs s (reads s n k p)
+logs_reads s n k (Some v) = stays refl
+logs_reads s n k None = stays refl
 
-logs_notes : (s : State) (n k : ℕ) (f : Found) → Logs s (notes s n k f)
-logs_notes s n k (At v) = stays refl
-logs_notes s n k Absent = stays refl
+logs_notes : (s : State) (n k : ℕ) (f : Option Version) → Logs s (notes s n k f)
+logs_notes s n k (Some v) = stays refl
+logs_notes s n k None = stays refl
 
 logs_final : (s : State) (c : Call) → Logs s (final_of s c)
 unfolding final_of

@@ -10,7 +10,7 @@ use Rattle.lists.specs.Members.{In, here, below}
 use Rattle.lists.proofs.Members.{every_in}
 use Rattle.units.specs.Version.{start_version}
 use Rattle.units.specs.declared.Version.{Version}
-use Rattle.units.specs.declared.Found.TheVariants.{At}
+use Rattle.std.specs.Prelude.{Some}
 use Rattle.transaction.specs.declared.Mark.{Mark}
 use Rattle.transaction.specs.declared.Write.{Write}
 use Rattle.model.specs.Log.{Entry, version_of, up_to, next, newest, logged, look_up, installed}
@@ -41,22 +41,22 @@ stands-newest (e ∷ es) k = go (eqb e.key k) refl (stands-newest es k)
     go true q r = stands_here e es k (eqb-true _ _ q)
     go false q r = stands-more (λ f i. below i) r
 
-stands-logged : (log : List Entry) (k o : ℕ) (v : Version) → logged log k o ≡ At v → Stands log (marked k v)
+stands-logged : (log : List Entry) (k o : ℕ) (v : Version) → logged log k o ≡ Some v → Stands log (marked k v)
 unfolding logged
 stands-logged [] k o v h = let z : ◌≡◌ {A = ℕ} 0 1 = cc in absurd (omega arith)
 stands-logged (e ∷ es) k o v h = go (eqb e.key k) refl (eqb e.ordinal o) (stands-logged es k o v) h
   where
-    go : (b : Bool) → eqb e.key k ≡ b → (c : Bool) → (logged es k o ≡ At v → Stands es (marked k v)) → cond (b && c) (At (version_of e)) (logged es k o) ≡ At v → Stands (e ∷ es) (marked k v)
+    go : (b : Bool) → eqb e.key k ≡ b → (c : Bool) → (logged es k o ≡ Some v → Stands es (marked k v)) → cond (b && c) (Some (version_of e)) (logged es k o) ≡ Some v → Stands (e ∷ es) (marked k v)
     go true q true r h = let z : version_of e ≡ v = cc in rw (← z) (stands_here e es k (eqb-true _ _ q))
     go true q false r h = stands-more (λ f i. below i) (r h)
     go false q c r h = stands-more (λ f i. below i) (r h)
 
 -- "A note records a version that the client read at a copy, by key and ordinal; the master looks it up"
-pub stands_found : (log : List Entry) (k o : ℕ) (v : Version) → look_up log k o ≡ At v → Stands log (marked k v)
+pub stands_found : (log : List Entry) (k o : ℕ) (v : Version) → look_up log k o ≡ Some v → Stands log (marked k v)
 unfolding look_up
 stands_found log k o v = go (eqb o 0)
   where
-    go : (b : Bool) → cond b (At start_version) (logged log k o) ≡ At v → Stands log (marked k v)
+    go : (b : Bool) → cond b (Some start_version) (logged log k o) ≡ Some v → Stands log (marked k v)
     go true h = let z : start_version ≡ v = cc in rw (← z) (loaded refl refl)
     go false h = stands-logged log k o v h
 

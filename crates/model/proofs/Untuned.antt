@@ -9,12 +9,9 @@ use lib.ListN.{length, set}
 use borrow.Author.Tests.{leb-false, eqb-false}
 use Rattle.lists.specs.Lists.{Every, none, also}
 use Rattle.units.specs.Bounds.{triple}
-use Rattle.units.specs.declared.Found.{Found}
-use Rattle.units.specs.declared.Found.TheVariants.{At, Absent}
+use Rattle.std.specs.Prelude.{Option, Some, None}
 use Rattle.transaction.specs.declared.Mark.{Mark}
 use Rattle.transaction.specs.declared.Transaction.{Transaction}
-use Rattle.transaction.specs.declared.Pending.{Pending}
-use Rattle.transaction.specs.declared.Pending.TheVariants.{Value, Nothing}
 use Rattle.transaction.specs.Transaction.{fresh, tuned, ended, recorded, written, wrote_at, pending_of}
 use Rattle.model.specs.Log.{Entry, newest, look_up}
 use Rattle.model.specs.State.{State, opened, no_transaction, at_place, place_of, nobody, transaction, free_place, with_transaction}
@@ -29,6 +26,7 @@ use Rattle.model.proofs.Places.{placed, is_open}
 use Rattle.model.proofs.Desk.{standing}
 use Rattle.model.proofs.Changes.{start_seats}
 use Rattle.model.proofs.Reached.{set_cases, recorded-name, written-name, good_step, good_reached}
+use Rattle.units.specs.declared.Version.{Version}
 
 -- the open transaction of the name n, where there is one, has (2, 0, 1)
 abbrev ByDefault : ℕ → State → Type 0
@@ -72,13 +70,13 @@ module _ {opening : ℕ} (s : State) (g : Good opening s) (n : ℕ) (b : ByDefau
     kept-recorded : (k : Mark) → ByDefault n (with_transaction s m (recorded (transaction s m) k))
     kept-recorded k = kept_with s.clock s.log (recorded (transaction s m) k) (recorded-name (transaction s m) k) (recorded-bounds (transaction s m) k)
 
-    kept-reads : (k : ℕ) (p : Pending) → ByDefault n (reads s m k p).state
-    kept-reads k (Value v) = b
-    kept-reads k Nothing = kept-recorded (marked k (newest s.log k))
+    kept-reads : (k : ℕ) (p : Option ℤ) → ByDefault n (reads s m k p).state
+    kept-reads k (Some v) = b
+    kept-reads k None = kept-recorded (marked k (newest s.log k))
 
-    kept-notes : (k : ℕ) (f : Found) → ByDefault n (notes s m k f).state
-    kept-notes k (At v) = kept-recorded (marked k v)
-    kept-notes k Absent = b
+    kept-notes : (k : ℕ) (f : Option Version) → ByDefault n (notes s m k f).state
+    kept-notes k (Some v) = kept-recorded (marked k v)
+    kept-notes k None = b
 
   abbrev Kept : Step → Type 0
   Kept d = ByDefault n d.state

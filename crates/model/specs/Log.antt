@@ -1,10 +1,8 @@
 -- The log of committed versions, newest first, and what document 01 counts in it.
-use Rattle.std.specs.Prelude.{ℕ, suc, Bool, cond, ◌&&◌, List, [], ◌∷◌, ◌++◌, eqb, leb, ltb, ℤ}
+use Rattle.std.specs.Prelude.{ℕ, suc, Bool, cond, ◌&&◌, List, [], ◌∷◌, ◌++◌, eqb, leb, ltb, ℤ, Option, Some, None}
 use Rattle.lists.specs.Lists.{count, any}
 use Rattle.units.specs.Version.{start_version}
 use Rattle.units.specs.declared.Version.{Version}
-use Rattle.units.specs.declared.Found.{Found}
-use Rattle.units.specs.declared.Found.TheVariants.{At, Absent}
 use Rattle.transaction.specs.declared.Write.{Write}
 
 -- a version of a key in the log
@@ -40,13 +38,13 @@ unfoldable pub newest : List Entry → ℕ → Version
 newest [] x = start_version
 newest (e ∷ es) x = cond (of_key x e) (version_of e) (newest es x)
 
-unfoldable pub logged : List Entry → ℕ → ℕ → Found
-logged [] x o = Absent
-logged (e ∷ es) x o = cond (of_key x e && eqb e.ordinal o) (At (version_of e)) (logged es x o)
+unfoldable pub logged : List Entry → ℕ → ℕ → Option Version
+logged [] x o = None
+logged (e ∷ es) x o = cond (of_key x e && eqb e.ordinal o) (Some (version_of e)) (logged es x o)
 
 -- the version of x that has the ordinal o; every key has its start version
-unfoldable pub look_up : List Entry → ℕ → ℕ → Found
-look_up log x o = cond (eqb o 0) (At start_version) (logged log x o)
+unfoldable pub look_up : List Entry → ℕ → ℕ → Option Version
+look_up log x o = cond (eqb o 0) (Some start_version) (logged log x o)
 
 -- the log with one version more: the key's next ordinal
 abbrev pub next : List Entry → ℕ → Write → Entry

@@ -1,12 +1,10 @@
 -- The rules of RVSI, stated twice: as document 01 states them, for every read, pair and written key; and as the search for the first
 -- that is broken, in the order BV, FV, SV, WC.
-use Rattle.std.specs.Prelude.{ℕ, ◌≤◌, Bool, cond, not, List, ◌≡◌, ltb, ℤ, pos, neg_ℤ, ◌-ℤ◌, length, get_or, ◌<ℤ◌, ◌≤ℤ◌}
+use Rattle.std.specs.Prelude.{ℕ, ◌≤◌, Bool, cond, not, List, ◌≡◌, ltb, ℤ, pos, neg_ℤ, ◌-ℤ◌, length, get_or, ◌<ℤ◌, ◌≤ℤ◌, Result, Ok, Err}
 use Rattle.std.specs.Int.Signed.{lt_z, le_z}
 use Rattle.lists.specs.Lists.{find, any, Every}
 use Rattle.units.specs.declared.rule.Rule.{Rule}
 use Rattle.units.specs.declared.rule.Rule.TheVariants.{BV, FV, SV, WC}
-use Rattle.units.specs.declared.rule.Certified.{Certified}
-use Rattle.units.specs.declared.rule.Certified.TheVariants.{Whole, Broken}
 use Rattle.transaction.specs.declared.Mark.{Mark}
 use Rattle.transaction.specs.declared.Write.{Write}
 use Rattle.transaction.specs.declared.Transaction.{Transaction}
@@ -61,17 +59,17 @@ module _ (log : List Entry) (t : Transaction) where
   overtaken w = changed_after log w.key t.name.0
 
 -- the first of a list of which p holds breaks a rule at its place
-unfoldable pub broken_at : {A : Type 0} → (ℕ → Rule) → (A → Bool) → List A → Certified
-broken_at rule p l = cond (ltb (find p l) (length l)) (Broken (rule (find p l))) Whole
+unfoldable pub broken_at : {A : Type 0} → (ℕ → Rule) → (A → Bool) → List A → Result (Unit {0}) Rule
+broken_at rule p l = cond (ltb (find p l) (length l)) (Err (rule (find p l))) (Ok tt)
 
-abbrev pub ◌or_else◌ : Certified → Certified → Certified
-◌or_else◌ Whole b = b
-◌or_else◌ (Broken r) b = Broken r
+abbrev pub ◌or_else◌ : Result (Unit {0}) Rule → Result (Unit {0}) Rule → Result (Unit {0}) Rule
+◌or_else◌ (Ok u) b = b
+◌or_else◌ (Err r) b = Err r
 
 infixr 30 ◌or_else◌
 -- "an aborted answer carries the rule and the place of the first read that broke it (for WC the first such written key) .. For SV it is
 -- the pair with the lowest place of x, and among these the lowest place of y"
-unfoldable pub certified : List Entry → Transaction → Certified
+unfoldable pub certified : List Entry → Transaction → Result (Unit {0}) Rule
 certified log t =
     broken_at BV (stale log t) (reads_of t)
     or_else broken_at FV (early log t) (reads_of t)

@@ -1,20 +1,15 @@
 -- What each call does: document 01's list of refusals in its order, and then what the call is for.
-use Rattle.std.specs.Prelude.{ℕ, suc, ◌+◌, Bool, true, false, cond, ◌&&◌, not, List, [], ◌∷◌, eqb, leb, ltb, length, get_or, take, set}
+use Rattle.std.specs.Prelude.{ℕ, suc, ◌+◌, Bool, true, false, cond, ◌&&◌, not, List, [], ◌∷◌, eqb, leb, ltb, length, get_or, take, set, Option, Some, None, Result, Ok, Err, ℤ}
 use Rattle.units.specs.Bounds.{triple}
 use Rattle.units.specs.declared.Version.{Version}
-use Rattle.units.specs.declared.Found.{Found}
-use Rattle.units.specs.declared.Found.TheVariants.{At, Absent}
-use Rattle.units.specs.declared.rule.Certified.{Certified}
-use Rattle.units.specs.declared.rule.Certified.TheVariants.{Whole, Broken}
 use Rattle.transaction.specs.declared.Mark.{Mark}
 use Rattle.transaction.specs.declared.Transaction.{Transaction}
-use Rattle.transaction.specs.declared.Pending.{Pending}
-use Rattle.transaction.specs.declared.Pending.TheVariants.{Value, Nothing}
 use Rattle.transaction.specs.Transaction.{fresh, tuned, ended, recorded, written, wrote_at, pending_of, reads_of, writes_of, no_mark}
 use Rattle.model.specs.Log.{newest, look_up, installed, made_at}
 use Rattle.model.specs.Rules.{distance, certified}
 use Rattle.model.specs.State.{State, nobody, transaction, free_place, with_transaction}
 use Rattle.model.specs.Call.{Call, Start, Read, Note, Write, Tune, Distance, Abort, Commit, Message, Newest, Reply, refused, started, version, own, done, apart_by, committed, aborted, made, made_by}
+use Rattle.units.specs.declared.rule.Rule.{Rule}
 
 -- a reply, and the state after it
 pub record Step : Type 0 where
@@ -51,13 +46,13 @@ reads_full t = leb 16 t.recorded
 abbrev pub writes_full : Transaction → ℕ → Bool
 writes_full t k = leb 16 (wrote_at t k)
 
-abbrev pub has_written : Pending → Bool
-has_written (Value v) = true
-has_written Nothing = false
+abbrev pub has_written : Option ℤ → Bool
+has_written (Some v) = true
+has_written None = false
 
-abbrev pub is_absent : Found → Bool
-is_absent (At v) = false
-is_absent Absent = true
+abbrev pub is_absent : Option Version → Bool
+is_absent (Some v) = false
+is_absent None = true
 
 -- Start: the next stamp is the name, the first free place is taken
 abbrev pub starts : State → Step
@@ -75,21 +70,21 @@ abbrev pub records : State → ℕ → ℕ → Version → Step
 records s n k v = record { reply = version v; state = with_transaction s n (recorded (transaction s n) (marked k v)) }
 
 -- "If this transaction has written the key, it answers the pending value and records nothing"
-abbrev pub reads : State → ℕ → ℕ → Pending → Step
-reads s n k (Value v) = answers s (own v)
-reads s n k Nothing = records s n k (newest s.log k)
+abbrev pub reads : State → ℕ → ℕ → Option ℤ → Step
+reads s n k (Some v) = answers s (own v)
+reads s n k None = records s n k (newest s.log k)
 
-abbrev pub notes : State → ℕ → ℕ → Found → Step
-notes s n k (At v) = records s n k v
-notes s n k Absent = answers s (refused 7)
+abbrev pub notes : State → ℕ → ℕ → Option Version → Step
+notes s n k (Some v) = records s n k v
+notes s n k None = answers s (refused 7)
 
 -- "An abort only ends its transaction"
 abbrev pub ends : State → ℕ → State
 ends s n = with_transaction s n (ended (transaction s n))
 
-abbrev pub aborts : State → ℕ → Certified → Check
-aborts s n Whole = record { holds = false; step = answers s done }
-aborts s n (Broken r) = record { holds = true; step = record { reply = aborted r; state = ends s n } }
+abbrev pub aborts : State → ℕ → Result (Unit {0}) Rule → Check
+aborts s n (Ok u) = record { holds = false; step = answers s done }
+aborts s n (Err r) = record { holds = true; step = record { reply = aborted r; state = ends s n } }
 
 -- Commit: the next stamp is the commit's, the written keys are installed, the transaction ends
 abbrev pub commits : State → ℕ → Step

@@ -4,7 +4,7 @@
 use units::Bounds;
 
 // A line of a written history. The first number is the transaction's own.
-#[derive(Clone, Copy)]
+#[derive(Clone, Copy, PartialEq, Eq)]
 pub enum Record {
     Start(u32),
     Tune(u32, Bounds),
@@ -16,7 +16,7 @@ pub enum Record {
 }
 
 // What the judge says of a committed transaction: ok, or the first rule that it broke.
-#[derive(Clone, Copy)]
+#[derive(Clone, Copy, PartialEq, Eq)]
 pub enum Verdict {
     Ok,
     RC,
@@ -28,7 +28,7 @@ pub enum Verdict {
 
 // What the judge remembers of a transaction: its number, the line of its start, its end (0 while it is open, the line of its commit,
 // or ABORTED), the word of the keys that it wrote, its bounds, and the number of its last recorded read (0 for none).
-#[derive(Clone, Copy)]
+#[derive(Clone, Copy, PartialEq, Eq)]
 pub struct Row {
     pub name: u32,
     pub start: u32,
@@ -40,20 +40,20 @@ pub struct Row {
 
 // A recorded read: its key, the line of the commit that made the version read (0 for the start version, NOWHERE where the reading
 // rule is broken), and the number of the same transaction's read before it (0 for none). Reads are numbered from 1.
-#[derive(Clone, Copy)]
+#[derive(Clone, Copy, PartialEq, Eq)]
 pub struct Seen {
     pub key: u32,
     pub line: u32,
     pub before: u32,
 }
 
-#[derive(Clone, Copy)]
+#[derive(Clone, Copy, PartialEq, Eq)]
 pub struct Judged {
     pub name: u32,
     pub verdict: Verdict,
 }
 
-#[derive(Clone, Copy)]
+#[derive(Clone, Copy, PartialEq, Eq)]
 pub struct Totals {
     pub started: u32,
     pub committed: u32,

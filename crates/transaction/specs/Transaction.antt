@@ -1,14 +1,12 @@
 -- A transaction's steps on itself. Document 01: "A transaction holds at most 16 recorded reads and 16 different keys written";
 -- "Two reads of one key are two records. A second write of a key replaces the value and takes no new place."
-use Rattle.std.specs.Prelude.{ℕ, ◌+◌, max, Bool, true, false, cond, List, eqb, ltb, ℤ, pos, length, get_or, take, set, replicate}
+use Rattle.std.specs.Prelude.{ℕ, ◌+◌, max, Bool, true, false, cond, List, eqb, ltb, ℤ, pos, length, get_or, take, set, replicate, Option, Some, None}
 use Rattle.units.specs.Bounds.{default}
 use Rattle.units.specs.declared.Bounds.{Bounds}
 use Rattle.lists.specs.Lists.{find}
 use Rattle.transaction.specs.declared.Mark.{Mark}
 use Rattle.transaction.specs.declared.Write.{Write}
 use Rattle.transaction.specs.declared.Transaction.{Transaction}
-use Rattle.transaction.specs.declared.Pending.{Pending}
-use Rattle.transaction.specs.declared.Pending.TheVariants.{Value, Nothing}
 
 abbrev pub no_mark : Mark
 no_mark = record { key = 0; ordinal = record { 0 = 0 }; stamp = record { 0 = 0 } }
@@ -68,5 +66,5 @@ written t k v =
     })
     t
 
-unfoldable pub pending_of : Transaction → ℕ → Pending
-pending_of t k = cond (ltb (wrote_at t k) (length (writes_of t))) (Value (get_or (writes_of t) (wrote_at t k) no_write).value) Nothing
+unfoldable pub pending_of : Transaction → ℕ → Option ℤ
+pending_of t k = cond (ltb (wrote_at t k) (length (writes_of t))) (Some (get_or (writes_of t) (wrote_at t k) no_write).value) None

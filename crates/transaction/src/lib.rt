@@ -1,24 +1,38 @@
 // The transaction as a value: tuned, recorded and written, it is handed back.
 #![tactic(auto)]
 
-ghost use Rattle.std.specs.Prelude.{◌≡◌, max, length, get_or};
-ghost use Rattle.transaction.specs.Transaction.{fresh, tuned, ended, recorded, written, wrote_at, pending_of, reads_of, writes_of, no_mark};
+ghost use Rattle.std.specs.Prelude.{◌≡◌, get_or};
+ghost use Rattle.std.specs.List.{position};
+ghost use Rattle.transaction.specs.Transaction.{is_key, fresh, tuned, ended, recorded, written, wrote_at, pending_of, reads_of, writes_of, no_mark};
 
-use units::{Bounds, Ordinal, Stamp, at_most, limits};
+use units::{Bounds, Ordinal, Stamp, limits};
 
 // A recorded read: the version of a key that was read, by its ordinal and its stamp.
-#[derive(Clone, Copy)]
+#[derive(Clone, Copy, PartialEq, Eq)]
 pub struct Mark {
     pub key: u32,
     pub ordinal: Ordinal,
     pub stamp: Stamp,
 }
 
+impl Mark {
+    // The read of nothing, in the places that don't count.
+    pub const NONE: Mark = Mark {
+        key: 0,
+        ordinal: Ordinal(0),
+        stamp: Stamp(0),
+    };
+}
+
 // A written key and its pending value.
-#[derive(Clone, Copy)]
+#[derive(Clone, Copy, PartialEq, Eq)]
 pub struct Write {
     pub key: u32,
     pub value: i32,
+}
+
+impl Write {
+    pub const NONE: Write = Write { key: 0, value: 0 };
 }
 
 // The first `recorded` of the reads, in recording order, and the first `written` of the writes, in the order of first
@@ -34,30 +48,17 @@ pub struct Transaction {
     pub written: u32,
 }
 
-// The transaction's own pending value of a key.
-#[derive(Clone, Copy)]
-pub enum Pending {
-    Value(i32),
-    Nothing,
-}
-
 impl Transaction {
     pub fn fresh(name: Stamp) -> Transaction
         ensures { result ≡ fresh name.0 }
     {
-        let m = Mark {
-            key: 0,
-            ordinal: Ordinal(0),
-            stamp: Stamp(0),
-        };
-        let w = Write { key: 0, value: 0 };
         Transaction {
             name,
             live: true,
             bounds: Bounds::DEFAULT,
-            reads: [m; limits::READS],
+            reads: [Mark::NONE; limits::READS],
             recorded: 0,
-            writes: [w; limits::WRITES],
+            writes: [Write::NONE; limits::WRITES],
             written: 0,
         }
     }
@@ -84,52 +85,40 @@ impl Transaction {
         if n < limits::READS {
             self.reads[n] = mark;
             self.recorded = (n + 1) as u32;
-            return self;
         }
         self
     }
 
-    // How many reads are recorded.
-    pub fn reads_in(self) -> usize
-        ensures { result ≡ length (reads_of self) }
+    // The recorded reads, in recording order.
+    pub fn reads(&self) -> &[Mark]
+        ensures { result.now ≡ reads_of self.now }
     {
-        at_most(self.recorded as usize, limits::READS)
+        &self.reads[..(self.recorded as usize).min(limits::READS)]
     }
 
     // The read at a place; the read of nothing where none is recorded there.
     pub fn read_at(self, i: usize) -> Mark
         ensures { result ≡ get_or (reads_of self) i no_mark }
     {
-        if i < self.reads_in() {
-            return self.reads[i];
-        }
-        Mark {
-            key: 0,
-            ordinal: Ordinal(0),
-            stamp: Stamp(0),
+        match self.reads().get(i) {
+            Some(mark) => *mark,
+            None => Mark::NONE,
         }
     }
 
-    // How many keys are written.
-    pub fn writes_in(self) -> usize
-        ensures { result ≡ length (writes_of self) }
+    // The written keys, in the order of first writing, each with its pending value.
+    pub fn writes(&self) -> &[Write]
+        ensures { result.now ≡ writes_of self.now }
     {
-        at_most(self.written as usize, limits::WRITES)
+        &self.writes[..(self.written as usize).min(limits::WRITES)]
     }
 
     // The place of a key among those written, or how many there are.
     pub fn wrote_at(self, key: u32) -> usize
         ensures { result ≡ wrote_at self key }
     {
-        let end = self.writes_in();
-        let mut i = 0;
-        while i < end {
-            if self.writes[i].key == key {
-                return i;
-            }
-            i += 1;
-        }
-        i
+        let writes = self.writes();
+        position(writes, key).unwrap_or(writes.len())
     }
 
     // A second write of a key replaces its value; a 17th key is not written.
@@ -139,26 +128,23 @@ impl Transaction {
         let i = self.wrote_at(key);
         if i < limits::WRITES {
             self.writes[i] = Write { key, value };
-            self.written = at_least(self.written, (i + 1) as u32);
-            return self;
+            self.written = self.written.max((i + 1) as u32);
         }
         self
     }
 
-    pub fn pending(self, key: u32) -> Pending
+    // The transaction's own pending value of a key.
+    pub fn pending(self, key: u32) -> Option<i32>
         ensures { result ≡ pending_of self key }
     {
-        let i = self.wrote_at(key);
-        if i < self.writes_in() {
-            let w = self.writes[i];
-            return Pending::Value(w.value);
-        }
-        Pending::Nothing
+        let w = self.writes().get(self.wrote_at(key))?;
+        Some(w.value)
     }
 }
 
-fn at_least(n: u32, least: u32) -> u32
-    ensures { result ≡ max n least }
+// The place of a key among the first writes of each.
+fn position(writes: &[Write], key: u32) -> Option<usize>
+    ensures { result ≡ position (is_key key) writes.now }
 {
-    if n < least { least } else { n }
+    writes.iter().position(|w| w.key == key)
 }

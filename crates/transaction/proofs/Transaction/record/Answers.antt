@@ -7,6 +7,6 @@ pub returns-then-n-lt-READS : goal.returns-then-n-lt-READS
 unfolding recorded
 returns-then-n-lt-READS c = simp (lt-ltb _ _ c.if-n-lt-READS.true)
 
-pub returns : goal.returns
+pub returns-else-n-lt-READS : goal.returns-else-n-lt-READS
 unfolding recorded
-returns c = simp (le-ltb _ _ c.if-n-lt-READS.false)
+returns-else-n-lt-READS c = simp (le-ltb _ _ c.if-n-lt-READS.false)

@@ -7,9 +7,9 @@ use Rattle.transaction.proofs.Transaction.write.Goals as goal
 pub returns-then-i-lt-WRITES : goal.returns-then-i-lt-WRITES
 unfolding written
 returns-then-i-lt-WRITES c =
-    rw (to_z-of_z c.ranges.value, c.at_least.ensures, c.wrote_at-i.ensures)
+    rw (to_z-of_z c.ranges.value, c.max.ensures, c.wrote_at-i.ensures)
     (simp (lt-ltb _ _ (rw c.wrote_at-i.ensures at c.if-i-lt-WRITES.true)))
 
-pub returns : goal.returns
+pub returns-else-i-lt-WRITES : goal.returns-else-i-lt-WRITES
 unfolding written
-returns c = simp (le-ltb _ _ (rw c.wrote_at-i.ensures at c.if-i-lt-WRITES.false))
+returns-else-i-lt-WRITES c = simp (le-ltb _ _ (rw c.wrote_at-i.ensures at c.if-i-lt-WRITES.false))
