@@ -3,7 +3,7 @@ use Prim.Native.Nat.{ℕ, ◌+◌, ◌-◌, ◌≤◌, ◌<◌}
 use native.Mathlib.Decide.{dec_le}
 use native.Mathlib.Omega.{arith}
 use mathlib.Core.Path.{◌≡◌, refl, sym, ap, ◌∙◌}
-use mathlib.Core.Bool.{true, false}
+use mathlib.Core.Bool.{false}
 use mathlib.Core.List.{List, ◌∷◌, ◌++◌, append_assoc}
 use mathlib.Core.Logic.{◌⊎◌, inl, inr}
 use borrow.Author.Tests.{le-leb, lt-leb, leb-false}
@@ -159,11 +159,7 @@ module _ (b : List ℕ) (at m : ℕ) (t u : List ℕ) (h : at + length (t ++ u) 
       let k : m ≡ at + length t = (wrote-next b at t m (sym p)).0 in
       e ∙ rw (q, k) (put-put b at t u h)
 
--- ---- a signed value by its sign
-
-pub plain_up : (z : ℤ) {d : ℕ} → le_z (pos 0) z ≡ true → d ≡ nat_abs z → plain z ≡ decimal d
-plain_up (pos n) h e = ap decimal (sym e)
-plain_up (negsuc n) h e = absurd (cc)
+-- ---- a value below zero, by its digits
 
 pub plain-down : (z : ℤ) {d : ℕ} → le_z (pos 0) z ≡ false → d ≡ nat_abs z → plain z ≡ 45 ∷ decimal d
 plain-down (pos n) h e = absurd (omega (arith, leb-false 0 n h))
