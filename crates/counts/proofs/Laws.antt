@@ -2,13 +2,15 @@
 use Prim.Native.Nat.{ℕ, suc, ◌+◌, ◌≤◌}
 use native.Mathlib.Omega.{arith}
 use native.Mathlib.Numerals.{add-one}
-use mathlib.Core.Path.{◌≡◌, refl, ◌∙◌}
-use mathlib.Core.Bool.{Bool, true, false, cond, ◌&&◌, ◌||◌}
+use mathlib.Core.Path.{◌≡◌, refl, sym, ◌∙◌}
+use mathlib.Core.Bool.{Bool, true, false, cond, ◌&&◌, ◌||◌, and-false}
 use mathlib.Core.List.{List, [], ◌∷◌}
 use lib.Dec.{leb, ltb, leb-suc-suc}
-use borrow.Author.Tests.{leb-true, leb-false, lt-ltb, le-ltb}
+use borrow.Author.Tests.{ltb-true, leb-true, leb-false, lt-ltb, le-ltb}
 use Rattle.lists.specs.Lists.{count, any}
-use Rattle.model.specs.Log.{Entry, of_key, up_to, changed_after, versions}
+use Rattle.lists.proofs.Every.{every_each}
+use Rattle.lists.proofs.Count.{count_none}
+use Rattle.model.specs.Log.{Entry, of_key, up_to, between, changed_after, versions}
 use Rattle.memory.specs.Memory.{entry_at, entries}
 use Rattle.counts.specs.Where.{counted}
 
@@ -21,6 +23,15 @@ module _ (p : ℕ → ℕ → Bool) (ws : List ℕ) (i n : ℕ) (before : n ≡ 
   pub counted-miss : p (entry_at ws i).key (entry_at ws i).stamp ≡ false → n ≡ counted p (entries ws (i + 1))
   unfolding counted entries count
   counted-miss h = rw (add-one i, h) before
+
+-- of two stamps not in order: nothing lies between
+pub nothing-between : (log : List Entry) (x after before : ℕ) → before ≤ after → 0 ≡ between log x after before
+unfolding between
+nothing-between log x after before h = sym (count_none _ (every_each (λ e. go (of_key x e) e.stamp (ltb after e.stamp) refl) log))
+  where
+    go : (k : Bool) (s : ℕ) (b : Bool) → ltb after s ≡ b → (k && (ltb after s && ltb s before)) ≡ false
+    go k s true e = rw (e, le-ltb s before (omega (arith, ltb-true after s e))) (and-false k)
+    go k s false e = rw e (and-false k)
 
 -- a key that has more versions than up to t has one after t
 up_to_le : (log : List Entry) (x t : ℕ) → up_to log x t ≤ versions log x

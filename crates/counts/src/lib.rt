@@ -16,7 +16,7 @@ pub fn length_of(memory: &[u32; WORDS]) -> usize
     (memory[LENGTH] as usize).min(limits::LOG)
 }
 
-// How many versions of the log a test of key and stamp holds of.
+// How many versions of the log a test of key and stamp holds of. A test by `&`, without branches, counts four versions at a time.
 fn count_where<F: Fn(u32, u32) -> bool>(memory: &[u32; WORDS], test: F) -> u32
     requires { F.IsAlwaysCallable test }
     ensures { (p : ℕ → ℕ → Bool) → Says (λ k s r. F.post test k s r) p → result ≡ counted p (log_of memory.now) }
@@ -34,14 +34,17 @@ fn count_where<F: Fn(u32, u32) -> bool>(memory: &[u32; WORDS], test: F) -> u32
 pub fn count_up_to(memory: &[u32; WORDS], key: u32, until: Stamp) -> u32
     ensures { result ≡ up_to (log_of memory.now) key until.0 }
 {
-    count_where(memory, |k, s| k == key && s <= until.0)
+    count_where(memory, |k, s| (k == key) & (s <= until.0))
 }
 
-// The versions of a key strictly after one stamp and strictly before another.
+// The versions of a key strictly after one stamp and strictly before another; of stamps not in order the log is not walked.
 pub fn count_between(memory: &[u32; WORDS], key: u32, after: Stamp, before: Stamp) -> u32
     ensures { result ≡ between (log_of memory.now) key after.0 before.0 }
 {
-    count_where(memory, |k, s| k == key && after.0 < s && s < before.0)
+    if before.0 <= after.0 {
+        return 0;
+    }
+    count_where(memory, |k, s| (k == key) & (after.0 < s) & (s < before.0))
 }
 
 // How many versions a key has.

@@ -3,13 +3,12 @@ use Prim.Native.Nat.{ℕ, zero, suc, ◌+◌, ◌*◌, ◌<◌, ◌≤◌}
 use native.Mathlib.Omega.{arith}
 use native.Mathlib.Numerals.{add-one}
 use native.Mathlib.Nat.{add-zero, add-suc, suc-add, mul-suc}
-use native.Mathlib.Decide.{ℕ_discrete}
 use mathlib.Core.Path.{◌≡◌, refl, sym, ap, ◌∙◌}
 use mathlib.Core.List.{List, [], ◌∷◌, ◌++◌}
 use lib.ListN.{length, get_or, set, drop, drop_of_length-le}
 use mir.Val.{bool_byte}
 use Rattle.transaction.specs.declared.Transaction.{Transaction}
-use lib.Seq.{ext_get_or, get_or-set_same, get_or-set_other, drop-cons, sets}
+use lib.Seq.{ext_get_or, drop-cons, sets}
 use Rattle.memory.specs.Memory.{tab, base_of, mark_words, write_words, row_words, stored}
 
 module _ {A : Type 0} where
@@ -27,15 +26,6 @@ module _ {A : Type 0} where
   -- a list that has f's value at every place is the table
   pub is_tab : (f : ℕ → A) (n : ℕ) (d : A) (l : List A) → length l ≡ n → ((i : ℕ) → i < n → get_or l i d ≡ f i) → l ≡ tab f n
   is_tab f n d l e h = ext_get_or d l (tab f n) (e ∙ sym (length-tab f n)) (λ i k. h i (omega arith) ∙ sym (get_or-tab f n i d (omega arith)))
-
-  -- one place more has been filled
-  pub filled : (f : ℕ → A) (l : List A) (i : ℕ) (d x : A) → i < length l → x ≡ f i → ((j : ℕ) → j < i → get_or l j d ≡ f j)
-      → (j : ℕ) → j < i + 1 → get_or (set l i x) j d ≡ f j
-  filled f l i d x h e before j k = go (ℕ_discrete j i)
-    where
-      go : Dec (j ≡ i) → get_or (set l i x) j d ≡ f j
-      go (yes q) = rw (q, get_or-set_same l i x d h) e
-      go (no q) = get_or-set_other l i j x d q ∙ before j (omega arith)
 
 -- words laid down one run behind the other are laid down at once
 pub sets_append : {A : Type 0} (l : List A) (at : ℕ) (xs ys : List A) → sets (sets l at xs) (at + length xs) ys ≡ sets l at (xs ++ ys)
