@@ -133,5 +133,3 @@ clear_step ws us i e = e ∙ rw (add-one i)
 pub ruleset decided = (start-full, write-nobody, write_no_key, write-full, write_goes, tune-nobody, abort-nobody, abort_goes)
 
 pub ruleset done_so = (refused-stays, start-after, write-after, tune-after, abort-after)
-
-

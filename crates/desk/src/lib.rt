@@ -111,7 +111,13 @@ pub fn write(memory: &mut [u32; WORDS], name: Stamp, key: u32, value: i32) -> Re
 }
 
 #[tactic(auto, using(crate::proofs::Laws::decided))]
-pub fn decide_tune(memory: &[u32; WORDS], name: Stamp, k1: u16, k2: u16, k3: u16) -> Decided<(), Refusal>
+pub fn decide_tune(
+    memory: &[u32; WORDS],
+    name: Stamp,
+    k1: u16,
+    k2: u16,
+    k3: u16,
+) -> Decided<(), Refusal>
     ensures reply { done_reply result.answer ≡ (step (state_of memory.now) (Tune name.0 k1 k2 k3)).reply }
     ensures place { result.place ≡ place_of (places_of memory.now) name.0 }
 {
@@ -131,7 +137,13 @@ pub fn change_tune(memory: &mut [u32; WORDS], place: usize, bounds: Bounds)
 }
 
 #[tactic(auto, using(crate::proofs::Laws::done_so))]
-pub fn tune(memory: &mut [u32; WORDS], name: Stamp, k1: u16, k2: u16, k3: u16) -> Result<(), Refusal>
+pub fn tune(
+    memory: &mut [u32; WORDS],
+    name: Stamp,
+    k1: u16,
+    k2: u16,
+    k3: u16,
+) -> Result<(), Refusal>
     ensures reply { done_reply result ≡ (step (state_of memory.old) (Tune name.0 k1 k2 k3)).reply }
     ensures memory { memory.new ≡ after memory.old (Tune name.0 k1 k2 k3) }
 {

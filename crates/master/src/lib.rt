@@ -103,7 +103,12 @@ pub fn read(memory: &mut [u32; WORDS], name: Stamp, key: u32) -> Result<Reading,
     Ok(answer)
 }
 
-pub fn decide_note(memory: &[u32; WORDS], name: Stamp, key: u32, ordinal: Ordinal) -> Decided<Reading, Refusal>
+pub fn decide_note(
+    memory: &[u32; WORDS],
+    name: Stamp,
+    key: u32,
+    ordinal: Ordinal,
+) -> Decided<Reading, Refusal>
     ensures reply { read_reply result.answer ≡ (step (state_of memory.now) (Note name.0 key ordinal.0)).reply }
     ensures place { result.place ≡ place_of (places_of memory.now) name.0 }
 {
@@ -114,7 +119,12 @@ pub fn decide_note(memory: &[u32; WORDS], name: Stamp, key: u32, ordinal: Ordina
 
 // What a note is answered, of the transaction at its place: 1, 2, 8, 7, 4, or the version of the ordinal.
 #[tactic(auto, using(crate::proofs::Laws::decided))]
-fn answer_note(memory: &[u32; WORDS], place: usize, key: u32, ordinal: Ordinal) -> Result<Reading, Refusal>
+fn answer_note(
+    memory: &[u32; WORDS],
+    place: usize,
+    key: u32,
+    ordinal: Ordinal,
+) -> Result<Reading, Refusal>
     ensures { (n : ℕ) → place ≡ place_of (places_of memory.now) n → read_reply result ≡ (step (state_of memory.now) (Note n key ordinal.0)).reply }
 {
     let t = opened(memory, place)?;
@@ -129,7 +139,12 @@ fn answer_note(memory: &[u32; WORDS], place: usize, key: u32, ordinal: Ordinal) 
 
 // A note records a version that the client read at a copy; the master looks it up and believes nothing else.
 #[tactic(auto, using(crate::proofs::Laws::done_so))]
-pub fn note(memory: &mut [u32; WORDS], name: Stamp, key: u32, ordinal: Ordinal) -> Result<Reading, Refusal>
+pub fn note(
+    memory: &mut [u32; WORDS],
+    name: Stamp,
+    key: u32,
+    ordinal: Ordinal,
+) -> Result<Reading, Refusal>
     ensures reply { read_reply result ≡ (step (state_of memory.old) (Note name.0 key ordinal.0)).reply }
     ensures memory { memory.new ≡ after memory.old (Note name.0 key ordinal.0) }
 {
@@ -147,7 +162,10 @@ pub fn distance(memory: &[u32; WORDS], name: Stamp, place: u32) -> Result<i64, R
     ensures { distance_reply result ≡ (step (state_of memory.now) (Distance name.0 place)).reply }
 {
     let t = opened(memory, place_of(memory, name))?;
-    let read = t.reads().get(place as usize).ok_or(Refusal::NoSuchBoundOrPlace)?;
+    let read = t
+        .reads()
+        .get(place as usize)
+        .ok_or(Refusal::NoSuchBoundOrPlace)?;
     Ok(rules::distance_of(memory, t.name, *read))
 }
 

@@ -1,15 +1,13 @@
--- What the code asks of a read or a written key, as the rules of document 01 ask it.
+-- What the code asks of a read, as the rules of document 01 ask it.
 use Prim.Native.Nat.{ℕ}
-use mathlib.Core.Path.{◌≡◌, sym, ◌∙◌, ap}
+use mathlib.Core.Path.{◌≡◌, sym, ◌∙◌}
 use mathlib.Core.Bool.{Bool, not}
 use mathlib.Core.List.{List}
-use lib.Dec.{ltb}
 use lib.IntN.{ℤ, pos, neg_ℤ, ◌-ℤ◌}
 use lib.Signed.{lt_z, le_z}
-use Rattle.units.specs.declared.Stamp.{Stamp}
 use Rattle.transaction.specs.declared.Mark.{Mark}
 use Rattle.transaction.specs.declared.Transaction.{Transaction}
-use Rattle.model.specs.Log.{Entry, up_to, between, changed_after}
+use Rattle.model.specs.Log.{Entry, up_to}
 use Rattle.model.specs.Rules.{distance, stale, early}
 
 -- a distance, from the two counts

@@ -1,6 +1,6 @@
 -- What the walks over the recorded reads find or ask: BV and FV in one, SV over all pairs, whether a read is apart from one of a stamp,
 -- the latest stamp among them.
-use Rattle.std.specs.Prelude.{ℕ, max, Bool, List, [], ◌∷◌, ltb, length, get_or, Result}
+use Rattle.std.specs.Prelude.{ℕ, max, Bool, List, [], ◌∷◌, ltb, get_or, Result}
 use Rattle.lists.specs.Lists.{find, any}
 use Rattle.units.specs.declared.rule.Rule.{Rule}
 use Rattle.units.specs.declared.rule.Rule.TheVariants.{BV, FV, SV}

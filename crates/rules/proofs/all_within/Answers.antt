@@ -1,6 +1,6 @@
 -- `all_within` meets its contract: a search for the stale, and the first early one kept.
 use native.Mathlib.Omega.{arith}
-use mathlib.Core.Path.{◌≡◌, ap}
+use mathlib.Core.Path.{ap}
 use lib.ListN.{length, get_or}
 use mir.Facts.{to_z-of_z}
 use Rattle.lists.proofs.Find.{search_miss}
