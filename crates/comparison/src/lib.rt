@@ -18,6 +18,7 @@ pub struct Behind {
 }
 
 // The copy's ordinals are `held`. 11 where some of them is above the master's.
+#[tactic(auto, unfolding(crate::specs::Comparison::compared))]
 pub fn compare(memory: &[u32; WORDS], held: [Ordinal; limits::KEYS]) -> Result<Behind, Refusal>
     ensures { compare_reply result ≡ compared (log_of memory.now) held }
 {

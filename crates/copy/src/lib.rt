@@ -24,6 +24,7 @@ impl Copy {
         }
     }
 
+    #[tactic(auto, unfolding(crate::specs::Copy::read_of))]
     pub fn read(self, key: u32) -> Result<Version, Refusal>
         ensures { held_reply result ≡ read_of self key }
     {

@@ -58,6 +58,7 @@ fn item_at(line: &[u8], at: usize) -> Option<(Item, usize)>
 }
 
 // Whether the newline stands at a place, and nothing behind it.
+#[tactic(auto, using(decimal::proofs::Steps::byte_within), unfolding(crate::specs::Read::ends_at))]
 fn ends(line: &[u8], at: usize) -> bool
     ensures { result ≡ ends_at line.now at }
 {

@@ -1,10 +1,7 @@
 -- `items_from` meets its contract. The invariant: the versions seen make the batch, and what is left of the line gives the whole answer.
 use Rattle.std.proofs.Common.{refl, sym, ◌∙◌}
-use Rattle.message.proofs.Steps.{nothing_yet, items_full, items_none, items_end, items_on}
+use Rattle.message.proofs.Steps.{items_full, items_none, items_end, items_on}
 use Rattle.message.proofs.read.items_from.Goals as goal
-
-pub loop-init : goal.loop-init
-loop-init c = nothing_yet _ _ _ c.empty-batch.ensures
 
 pub returns-in_err-item : goal.returns-in_err-item
 returns-in_err-item c = c.from_residual.ensures ∙ items_none _ _ _ c.loop.invariant c.loop-test.true c.in_err-item.ensures refl

@@ -1,16 +1,10 @@
 -- `write_message` meets its contract: the line as it stands in the local text is put at the front of the room.
-use Rattle.std.proofs.Common.{length, ap, ◌∙◌, arith, rules}
-use Rattle.lists.proofs.Length.{length_mapped, front-size}
+use Rattle.std.proofs.Common.{ap, ◌∙◌}
 use Rattle.decimal.specs.Write.{put}
 use Rattle.message.specs.Line.{message_text}
 use Rattle.message.specs.Write.{message_reply}
 use Rattle.message.proofs.Putting.{handed}
 use Rattle.message.proofs.write.write_message.Goals as goal
-
-pub of-line-requires : goal.of-line-requires
-of-line-requires c =
-    let b = c.args.batch in
-    omega (arith, front-size b.count b.items 16 (search (rules, length_mapped)), ap length c.items.ensures)
 
 pub returns : goal.returns
 returns c =

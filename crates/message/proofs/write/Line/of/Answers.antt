@@ -1,6 +1,6 @@
 -- `of` meets its contract. The invariant: the versions passed stand behind the stamp, at most 27 bytes each.
 use Rattle.std.proofs.Common.{◌<◌, rules}
-use Rattle.message.proofs.Putting.{stamp-room, line_none, item_room, line_more, newline-room, line_all}
+use Rattle.message.proofs.Putting.{stamp-room, line_none, line_more, line_all}
 use Rattle.message.proofs.write.Line.of.Goals as goal
 
 pub put_field-requires : goal.put_field-requires
@@ -13,14 +13,8 @@ loop-item-init c =
     let small : c.args.stamp.0 < 4294967296 = search rules in
     line_none _ small _ c.put_byte.ensures (rw c.from.ensures at c.put_field.ensures)
 
-pub put_item-requires : goal.put_item-requires
-put_item-requires c = item_room _ _ c.loop-item.invariant c.requires c.loop-item-test.true
-
 pub loop-item-preserved : goal.loop-item-preserved
 loop-item-preserved c = line_more _ _ c.loop-item.invariant c.loop-item-test.true c.put_item.ensures.text c.put_item.ensures.long
-
-pub put_byte-requires-2 : goal.put_byte-requires-2
-put_byte-requires-2 c = newline-room _ _ c.loop-item.invariant c.requires c.loop-item.auto.item-index-end
 
 pub returns : goal.returns
 returns c = line_all _ _ c.loop-item.invariant c.loop-item-test.false c.put_byte-2.ensures
