@@ -1,7 +1,6 @@
 -- What is not of the form, at any place of any text, in every range; then document 01's edges, by computation.
 use Prim.Native.Nat.{ℕ, suc, ◌+◌, ◌-◌, ◌^◌, ◌≤◌, ◌<◌}
 use native.Mathlib.Nat.{not-le_of_lt}
-use native.Mathlib.Decide.{dec_lt}
 use native.Mathlib.Omega.{arith}
 use mathlib.Core.Path.{◌≡◌, refl, sym, ap, ◌∙◌, subst}
 use mathlib.Core.Bool.{Bool, true, false, cond}
@@ -15,7 +14,7 @@ use Rattle.decimal.specs.Read.{more, digits, unsigned, negative, field_at, natur
 use Rattle.decimal.specs.declared.read.Range.{Range}
 use Rattle.decimal.proofs.Digits.{digit-above, digit_is}
 use Rattle.decimal.proofs.Reading.{head_of, bad_exactly, reads_one}
-use Rattle.decimal.proofs.Steps.{byte_within, unsigned-bad, negative-bad, digits-end, digits-none, digits_on, field_minus, field_plain}
+use Rattle.decimal.proofs.Steps.{byte_within, unsigned-bad, negative-bad, no_digits, digits_on, field_minus, field_plain}
 
 no_digit : (b : ℕ) → b < 48 → is_digit b ≡ false
 no_digit b h = go (is_digit b) refl
@@ -23,14 +22,6 @@ no_digit b h = go (is_digit b) refl
     go : (t : Bool) → is_digit b ≡ t → is_digit b ≡ false
     go false e = e
     go true e = absurd (omega (arith, digit-above b e))
-
--- no digit: no number
-no_digits : (most : ℕ) (s : List ℕ) (i : ℕ) → is_digit (get_or s i 0) ≡ false → None ≡ digits most i (drop i s)
-no_digits most s i n = go (dec_lt i (length s))
-  where
-    go : Dec (i < length s) → None ≡ digits most i (drop i s)
-    go (yes h) = digits-none most s i h n
-    go (no h) = digits-end most s i (omega arith)
 
 -- a zero is a number by itself, and none with a digit behind it
 zero_more : (most e : ℕ) (s : List ℕ) → is_digit (get_or s 0 0) ≡ true → more most 0 e s ≡ None

@@ -5,13 +5,14 @@ use native.Mathlib.Decide.{dec_lt}
 use native.Mathlib.Omega.{arith}
 use mathlib.Core.Path.{◌≡◌, refl, sym, ap, ◌∙◌, subst}
 use mathlib.Core.Bool.{Bool, true, false, ◌&&◌}
-use mathlib.Core.List.{List, [], ◌∷◌, ◌++◌}
+use mathlib.Core.List.{List, [], ◌∷◌, ◌++◌, append_assoc, append-nil}
 use mathlib.Core.Logic.{◌⊎◌, inl, inr}
 use borrow.Author.Tests.{lt-ltb, le-ltb, le-leb, leb-true}
 use lib.Dec.{leb}
 use lib.IntN.{ℤ, pos, negsuc, nat_abs}
 use lib.Signed.{mag, lt_z}
-use lib.ListN.{length, get_or, drop, length-append, get_or-append}
+use lib.ListN.{length, get_or, set, drop, drop_of_length-le, length-append, get_or-append}
+use Rattle.std.proofs.lemmas.List.{drop-set}
 use Rattle.lists.specs.Lists.{Every, none, also}
 use Rattle.lists.proofs.Every.{every_append, every_at}
 use Rattle.decimal.specs.Text.{is_digit, spelt, decimal, plain}
@@ -19,11 +20,11 @@ use Rattle.decimal.specs.Text.{is_digit, spelt, decimal, plain}
 -- ---- the digits of n: one of them below ten, else those of n / 10 and one more
 
 module _ (k n : ℕ) where
-  spelt_small : n < 10 → spelt (suc k) n ≡ (48 + n) ∷ []
+  pub spelt_small : n < 10 → spelt (suc k) n ≡ (48 + n) ∷ []
   unfolding spelt
   spelt_small h = rw (lt-ltb n 10 h)
 
-  spelt-step : 10 ≤ n → spelt (suc k) n ≡ spelt k (n / 10) ++ ((48 + n % 10) ∷ [])
+  pub spelt-step : 10 ≤ n → spelt (suc k) n ≡ spelt k (n / 10) ++ ((48 + n % 10) ∷ [])
   unfolding spelt
   spelt-step h = rw (le-ltb n 10 h)
 
@@ -131,6 +132,9 @@ decimal-first =
 
 -- ---- the length
 
+length-step : (n : ℕ) → 10 ≤ n → length (decimal n) ≡ length (decimal (n / 10)) + 1
+length-step n h = ap length (decimal_step n h) ∙ length-append (decimal (n / 10)) ((48 + n % 10) ∷ [])
+
 pub decimal-length : (n k : ℕ) → 1 ≤ k → n < 10 ^ k → length (decimal n) ≤ k
 decimal-length =
     decimal_ind (λ n t. (k : ℕ) → 1 ≤ k → n < 10 ^ k → length t ≤ k) (λ n h k l g. l) (λ m d h g p k l b. rw (length-append (decimal m) ((48 + d) ∷ [])) (less m d h p k l b))
@@ -144,6 +148,70 @@ pub decimal_head : (n : ℕ) → 48 ≤ get_or (decimal n) 0 0
 decimal_head =
     decimal_ind (λ n t. 48 ≤ get_or t 0 0) (λ n h. omega arith)
     (λ m d h g p. rw (get_or-append (decimal m) ((48 + d) ∷ []) 0 0 (decimal-some m)) p)
+
+-- a number from 10 ^ k on has more than k digits
+pub decimal-longer : (n k : ℕ) → 10 ^ k ≤ n → k < length (decimal n)
+decimal-longer =
+    decimal_ind (λ n t. (k : ℕ) → 10 ^ k ≤ n → k < length t) one (λ m d h g p k l. rw (length-append (decimal m) ((48 + d) ∷ [])) (more m d g p k l))
+  where
+    one : (n : ℕ) → n < 10 → (k : ℕ) → 10 ^ k ≤ n → k < 1
+    one n h zero l = omega arith
+    one n h (suc k) l = absurd (omega (arith, pow-suc 10 k, pow-some k))
+      where
+        pow-some : (k : ℕ) → 1 ≤ 10 ^ k
+        pow-some zero = omega arith
+        pow-some (suc k) = omega (arith, pow-suc 10 k, pow-some k)
+
+    more : (m d : ℕ) → d < 10 → ((k : ℕ) → 10 ^ k ≤ m → k < length (decimal m)) → (k : ℕ) → 10 ^ k ≤ m * 10 + d → k < length (decimal m) + 1
+    more m d g p zero l = omega arith
+    more m d g p (suc k) l = omega (arith, p k (omega (arith, pow-suc 10 k)))
+
+-- the places of its digits are enough for n
+pub spelt_length : (k n : ℕ) → length (decimal n) ≤ k → spelt k n ≡ decimal n
+spelt_length zero n h = absurd (omega (arith, decimal-some n))
+spelt_length (suc k) n h = go (dec_lt n 10) (λ l. spelt_length k (n / 10) (omega (arith, length-step n l)))
+  where
+    go : Dec (n < 10) → (10 ≤ n → spelt k (n / 10) ≡ decimal (n / 10)) → spelt (suc k) n ≡ decimal n
+    go (yes l) e = spelt_small k n l ∙ sym (decimal_small n l)
+    go (no l) e = rw (spelt-step k n (omega arith), e (omega arith), decimal_step n (omega arith))
+
+-- the digits from the back: those of n fill l, and each that is stored is the last of what is left
+pub spelt_whole : (l : List ℕ) (n : ℕ) → length l ≡ length (decimal n) → (length (spelt (length l) n) ≡ length l) × (spelt (length l) n ++ drop (length l) l ≡ decimal n)
+spelt_whole l n h =
+    let e : spelt (length l) n ≡ decimal n = spelt_length (length l) n (omega arith) in
+    (ap length e ∙ sym h, ap (λ (t : List ℕ). t ++ drop (length l) l) e ∙ ap (λ (t : List ℕ). decimal n ++ t) (drop_of_length-le l (omega arith)) ∙ append-nil (decimal n))
+
+no_digit : (i n : ℕ) → i ≡ 0 → spelt i n ≡ []
+unfolding spelt
+no_digit zero n e = refl
+no_digit (suc i) n e = absurd (omega arith)
+
+last_digit : (i n : ℕ) → length (spelt (suc i) n) ≡ suc i → (spelt i (n / 10) ++ ((48 + n % 10) ∷ []) ≡ spelt (suc i) n) × (length (spelt i (n / 10)) ≡ i)
+last_digit i n h = go (dec_lt n 10)
+  where
+    go : Dec (n < 10) → (spelt i (n / 10) ++ ((48 + n % 10) ∷ []) ≡ spelt (suc i) n) × (length (spelt i (n / 10)) ≡ i)
+    go (yes l) =
+        let one : spelt (suc i) n ≡ (48 + n) ∷ [] = spelt_small i n l in
+        let z : i ≡ 0 = omega (arith, ap length one) in
+        let m : n % 10 ≡ n = omega arith in
+        (rw (no_digit i (n / 10) z, m) (sym one), rw (no_digit i (n / 10) z) (sym z))
+    go (no l) =
+        let e : spelt (suc i) n ≡ spelt i (n / 10) ++ ((48 + n % 10) ∷ []) = spelt-step i n (omega arith) in
+        (sym e, omega (arith, ap length e, length-append (spelt i (n / 10)) ((48 + n % 10) ∷ [])))
+
+pub spelt_back : (l : List ℕ) (i n : ℕ) (t : List ℕ) → 0 < i → i ≤ length l → (length (spelt i n) ≡ i) × (spelt i n ++ drop i l ≡ t)
+    → (length (spelt (i - 1) (n / 10)) ≡ i - 1) × (spelt (i - 1) (n / 10) ++ drop (i - 1) (set l (i - 1) (48 + n % 10)) ≡ t)
+spelt_back l i n t some within v =
+    let e : i ≡ suc (i - 1) = omega arith in
+    let d : ℕ = 48 + n % 10 in
+    let a : List ℕ = spelt (i - 1) (n / 10) in
+    let p : (spelt (i - 1) (n / 10) ++ ((48 + n % 10) ∷ []) ≡ spelt (suc (i - 1)) n) × (length (spelt (i - 1) (n / 10)) ≡ i - 1) = last_digit (i - 1) n (ap (λ (k : ℕ). length (spelt k n)) (sym e) ∙ v.0 ∙ e) in (
+      p.1,
+      ap (λ (x : List ℕ). a ++ x) (drop-set l (i - 1) d (omega arith) ∙ ap (λ (k : ℕ). d ∷ drop k l) (omega arith))
+          ∙ sym (append_assoc a (d ∷ []) (drop i l))
+          ∙ ap (λ (x : List ℕ). x ++ drop i l) (p.0 ∙ ap (λ (k : ℕ). spelt k n) (sym e))
+          ∙ v.1,
+    )
 
 -- the sizes in use: 32 bits, 64 bits
 pub decimal_32 : (n : ℕ) → n < 4294967296 → length (decimal n) ≤ 10

@@ -1,5 +1,4 @@
 -- The laws of decimal text, for this crate's proofs and for those of the crates that read or write it.
-pub mod Tests
 pub mod Digits
 pub mod Steps
 pub mod Reading

@@ -1,25 +1,19 @@
 -- The two readings over the one: naturals of a range, and signed 32-bit values.
-use Prim.Native.Nat.{ℕ, zero, suc, ◌≤◌, ◌+◌, ◌-◌, ◌<◌}
-use native.Mathlib.Numerals.{add-one}
+use Prim.Native.Nat.{ℕ, zero, suc, ◌≤◌, ◌-◌, ◌<◌}
 use native.Mathlib.Omega.{arith}
-use mathlib.Core.Path.{◌≡◌, refl, sym, ap, ◌∙◌}
-use mathlib.Core.List.{List, ◌∷◌}
+use mathlib.Core.Path.{◌≡◌, refl, sym, ap}
+use mathlib.Core.List.{List}
 use mathlib.Core.Logic.{◌↔◌}
-use mathlib.Core.Bool.{true, false}
-use borrow.Author.Tests.{ltb-true}
 use lib.Dec.{T}
 use lib.IntN.{ℤ, pos, negsuc, nat_abs, ◌-ℤ◌}
-use lib.Signed.{mag, lt_z, non_neg}
+use lib.Signed.{mag, non_neg}
 use mir.Syntax.{w32, w64, w128}
 use mir.Val.{Fits, SFits, to_z, of_z}
-use mir.Facts.{to_z_pos, to_z-neg, to_z-of_z}
+use mir.Facts.{to_z-of_z}
 use Rattle.std.proofs.lemmas.Int.{ints}
 use Rattle.std.proofs.lemmas.Option.{some_pair_parts}
 use Rattle.std.specs.Prelude.{Option, Some, None}
-use Rattle.decimal.specs.Text.{decimal, plain}
 use Rattle.decimal.specs.Read.{field_at, as_natural, natural_at, naturals, signed_at, values, number, InRange, Reads}
-use Rattle.decimal.specs.Write.{sign_of}
-use Rattle.decimal.specs.declared.write.Sign.{Sign}
 use Rattle.decimal.proofs.Reading.{absurd_number, field-reads, field-read}
 
 -- ---- a value of any range, in the machine's 128 bits
@@ -97,58 +91,3 @@ module _ (s : List ℕ) (at : ℕ) where
     pub signed_read : Some (to_z w32 (of_z w32 (to_z w128 (of_z w128 v))), e) ≡ signed_at s at
     unfolding signed_at
     signed_read = let f : SFits w32 v = record { sfits = signed_small } in rw (signed_wide, to_z-of_z f) p
-
--- ---- a signed value, taken apart by the machine: z as its bits, and as the bits of `!z`
-
-module _ (z : ℤ) (f : SFits w32 z) where
-  flipped : lt_z (to_z w32 (of_z w32 z)) (pos 0) ≡ true → to_z w32 (4294967295 - of_z w32 z) ≡ pos (mag z)
-  flipped h = go z f.sfits (rw (to_z-of_z f) at h)
-    where
-      go : (z : ℤ) → mag z < 2147483648 → lt_z z (pos 0) ≡ true → to_z w32 (4294967295 - of_z w32 z) ≡ pos (mag z)
-      go (pos k) l h = absurd (omega (arith, ltb-true k 0 h))
-      go (negsuc k) l h =
-          let e : 4294967295 - (4294967296 - suc k) ≡ k = omega arith in
-          ap (to_z w32) e ∙ to_z_pos w32 l
-
-  kept : lt_z (to_z w32 (of_z w32 z)) (pos 0) ≡ false → to_z w32 (of_z w32 z) ≡ pos (mag z)
-  kept h = to_z-of_z f ∙ go z (rw (to_z-of_z f) at h)
-    where
-      go : (z : ℤ) → lt_z z (pos 0) ≡ false → z ≡ pos (mag z)
-      go (pos k) h = refl
-      go (negsuc k) h = let z : ◌≡◌ {A = ℕ} 0 1 = cc in absurd (omega arith)
-
-  cast : {y : ℤ} → y ≡ pos (mag z) → T (non_neg y) × Fits w32 (nat_abs y)
-  cast q = rw q (tt, record { fits = omega (arith, f.sfits) })
-
-  pub cast_minus : lt_z (to_z w32 (of_z w32 z)) (pos 0) ≡ true → T (non_neg (to_z w32 (4294967295 - of_z w32 z))) × Fits w32 (nat_abs (to_z w32 (4294967295 - of_z w32 z)))
-  cast_minus h = cast (flipped h)
-
-  pub cast_plus : lt_z (to_z w32 (of_z w32 z)) (pos 0) ≡ false → T (non_neg (to_z w32 (of_z w32 z))) × Fits w32 (nat_abs (to_z w32 (of_z w32 z)))
-  cast_plus h = cast (kept h)
-
-  pub sign_minus : lt_z (to_z w32 (of_z w32 z)) (pos 0) ≡ true → Sign.Minus (nat_abs (to_z w32 (4294967295 - of_z w32 z))) ≡ sign_of z
-  unfolding sign_of
-  sign_minus h = ap (λ (y : ℤ). Sign.Minus (nat_abs y)) (flipped h) ∙ go z (rw (to_z-of_z f) at h)
-    where
-      go : (z : ℤ) → lt_z z (pos 0) ≡ true → Sign.Minus (mag z) ≡ sign_of z
-      go (pos k) h = absurd (omega (arith, ltb-true k 0 h))
-      go (negsuc k) h = refl
-
-  pub sign_plus : lt_z (to_z w32 (of_z w32 z)) (pos 0) ≡ false → Sign.Plus (nat_abs (to_z w32 (of_z w32 z))) ≡ sign_of z
-  unfolding sign_of
-  sign_plus h = ap (λ (y : ℤ). Sign.Plus (nat_abs y)) (kept h) ∙ go z (rw (to_z-of_z f) at h)
-    where
-      go : (z : ℤ) → lt_z z (pos 0) ≡ false → Sign.Plus (mag z) ≡ sign_of z
-      go (pos k) h = refl
-      go (negsuc k) h = let z : ◌≡◌ {A = ℕ} 0 1 = cc in absurd (omega arith)
-
--- the text of each half
-pub plain-plus : {r : Sign} {v : ℕ} (z : ℤ) → r ≡ sign_of z → r ≡ Sign.Plus v → plain z ≡ decimal v
-unfolding sign_of
-plain-plus {v = v} (pos k) p q = let e : k ≡ v = cc in ap decimal e
-plain-plus (negsuc k) p q = let z : ◌≡◌ {A = ℕ} 0 1 = cc in absurd (omega arith)
-
-pub plain_minus : {r : Sign} {v : ℕ} (z : ℤ) → r ≡ sign_of z → r ≡ Sign.Minus v → plain z ≡ 45 ∷ decimal (v + 1)
-unfolding sign_of
-plain_minus (pos k) p q = let z : ◌≡◌ {A = ℕ} 0 1 = cc in absurd (omega arith)
-plain_minus {v = v} (negsuc k) p q = let e : k ≡ v = cc in ap (λ (n : ℕ). 45 ∷ decimal n) (ap suc e ∙ sym (add-one v))

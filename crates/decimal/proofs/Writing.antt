@@ -1,53 +1,21 @@
 -- Writing text: digits from the back, a text put whole or not at all, and what it leaves as it was.
-use Prim.Native.Nat.{ℕ, suc, ◌+◌, ◌-◌, ◌/◌, ◌%◌, ◌≤◌, ◌<◌}
-use native.Mathlib.Numerals.{add-one}
+use Prim.Native.Nat.{ℕ, ◌+◌, ◌-◌, ◌≤◌, ◌<◌}
 use native.Mathlib.Decide.{dec_le}
 use native.Mathlib.Omega.{arith}
 use mathlib.Core.Path.{◌≡◌, refl, sym, ap, ◌∙◌}
-use mathlib.Core.Bool.{Bool, true, false, not}
-use mathlib.Core.List.{List, [], ◌∷◌, ◌++◌, append_assoc}
+use mathlib.Core.Bool.{false}
+use mathlib.Core.List.{List, ◌∷◌, ◌++◌, append_assoc}
 use mathlib.Core.Logic.{◌⊎◌, inl, inr}
-use borrow.Author.Tests.{le-leb, lt-leb, leb-true, leb-false, not-true, not-false}
-use lib.Dec.{leb}
-use lib.ListN.{length, get_or, set, take, drop, length-append, length-drop}
-use lib.Seq.{sets, sets-eq, set_comm, paste, paste-suc, length-paste, take-length, take_at, drop_at, length-take-le, drop-drop, get_or-take, get_or-drop}
+use borrow.Author.Tests.{le-leb, lt-leb, leb-false}
+use lib.IntN.{ℤ, pos, negsuc, nat_abs}
+use lib.Signed.{le_z}
+use lib.ListN.{length, get_or, take, drop, length-append, length-drop}
+use borrow.Rule.Slice.PartMut.{put_mid}
+use lib.Seq.{sets, sets-eq, take_at, drop_at, length-take-le, drop-drop, get_or-take, get_or-drop}
 use Rattle.std.specs.Prelude.{Option, Some, None}
-use Rattle.lists.proofs.Sets.{sets_snoc}
-use Rattle.decimal.specs.Text.{decimal}
+use Rattle.decimal.specs.Text.{decimal, plain}
 use Rattle.decimal.specs.Read.{Stands}
-use Rattle.decimal.specs.Write.{put, wrote}
-use Rattle.decimal.proofs.Digits.{decimal_small, decimal_step}
-
--- ---- digits from the back
-
--- a store behind a run of stores may be made first
-sets_set : (l : List ℕ) (at : ℕ) (t : List ℕ) (j d : ℕ) → at + length t ≤ j → sets (set l j d) at t ≡ set (sets l at t) j d
-sets_set l at [] j d h = refl
-sets_set l at (b ∷ t) j d h =
-    ap (λ (m : List ℕ). sets m (suc at) t) (set_comm l j at d b (omega arith)) ∙ sets_set (set l at b) (suc at) t j d (omega arith)
-
-pub length-step : (n : ℕ) → 10 ≤ n → length (decimal n) ≡ length (decimal (n / 10)) + 1
-length-step n h = ap length (decimal_step n h) ∙ length-append (decimal (n / 10)) ((48 + n % 10) ∷ [])
-
-pub length_one : (n : ℕ) → n < 10 → length (decimal n) ≡ 1
-length_one n h = ap length (decimal_small n h)
-
-module _ (l : List ℕ) (at i n d : ℕ) (place : at + length (decimal n) ≡ i + 1) where
-  -- the last digit is stored first
-  pub spell-step : 10 ≤ n → d ≡ 48 + n % 10 → sets (set l i d) at (decimal (n / 10)) ≡ sets l at (decimal n)
-  spell-step h e =
-      let k : at + length (decimal (n / 10)) ≡ i = omega (arith, length-step n h) in
-      sets_set l at (decimal (n / 10)) i d (omega arith)
-      ∙ ap (λ (j : ℕ). set (sets l at (decimal (n / 10))) j d) (sym k)
-      ∙ sym (sets_snoc l at (decimal (n / 10)) d)
-      ∙ ap (λ (b : ℕ). sets l at (decimal (n / 10) ++ (b ∷ []))) e
-      ∙ ap (sets l at) (sym (decimal_step n h))
-
-  -- the first digit is stored last
-  pub spell_last : n < 10 → d ≡ 48 + n → set l i d ≡ sets l at (decimal n)
-  spell_last h e =
-      let k : i ≡ at = omega (arith, length_one n h) in
-      ap (λ (j : ℕ). set l j d) k ∙ ap (set l at) e ∙ ap (sets l at) (sym (decimal_small n h))
+use Rattle.decimal.specs.Write.{put, wrote, ends}
 
 -- ---- a text, whole or not at all
 
@@ -70,43 +38,6 @@ module _ (b : List ℕ) (at : ℕ) (t : List ℕ) where
 
   pub put_sets : at + length t ≤ length b → sets b at t ≡ put b at t
   put_sets h = sets-eq t b at h ∙ sym (put-room h)
-
--- what the two answers of a writer owe, from the test that it made: the text is w bytes long
-module _ (b : List ℕ) (at w : ℕ) (t : List ℕ) (e : w ≡ length t) {r : Bool} (q : r ≡ leb (at + w) (length b)) where
-  pub roomy : not r ≡ false → at + length t ≤ length b
-  roomy h = leb-true (at + length t) (length b) (ap (λ (k : ℕ). leb (at + k) (length b)) (sym e) ∙ sym q ∙ not-false r h)
-
-  pub tight : not r ≡ true → length b < at + length t
-  tight h = leb-false (at + length t) (length b) (ap (λ (k : ℕ). leb (at + k) (length b)) (sym e) ∙ sym q ∙ not-true r h)
-
-  pub refuses : not r ≡ true → (None ≡ wrote b at t) × (b ≡ put b at t)
-  refuses h = (sym (wrote-full b at t (tight h)), sym (put_full b at t (tight h)))
-
-  pub writes : not r ≡ false → {c : List ℕ} → c ≡ sets b at t → (Some (at + w) ≡ wrote b at t) × (c ≡ put b at t)
-  writes h p = (ap (λ (k : ℕ). Some (at + k)) e ∙ sym (wrote-room b at t (roomy h)), p ∙ put_sets b at t (roomy h))
-
--- a text behind its first byte
-pub behind : {c : List ℕ} (b : List ℕ) (at d : ℕ) (t : List ℕ) → c ≡ sets (set b at d) (at + 1) t → c ≡ sets b at (d ∷ t)
-behind b at d t q = q ∙ ap (λ (k : ℕ). sets (set b at d) k t) (add-one at)
-
--- a text, byte by byte: the first i bytes have been copied
-module _ (b : List ℕ) (at : ℕ) (t : List ℕ) (room : at + length t ≤ length b) {c : List ℕ} {i : ℕ} (p : c ≡ paste b at t i) where
-  pub copy-length : i ≤ length t → length c ≡ length b
-  copy-length h = ap length p ∙ length-paste b at t i (omega arith) h
-
-  pub copy_more : i < length t → set c (at + i) (get_or t i 0) ≡ paste b at t (i + 1)
-  copy_more h = ap (λ (l : List ℕ). set l (at + i) (get_or t i 0)) p ∙ paste-suc b at t i 0 (omega arith) h ∙ ap (paste b at t) (sym (add-one i))
-
-  pub copy_all : i ≤ length t → length t ≤ i → (Some (at + i) ≡ wrote b at t) × (c ≡ put b at t)
-  copy_all h g =
-      let e : i ≡ length t = omega arith in (
-        ap (λ (k : ℕ). Some (at + k)) e ∙ sym (wrote-room b at t room),
-        p ∙ ap (paste b at t) e ∙ ap (λ (u : List ℕ). take at b ++ u ++ drop (at + length t) b) (take-length t) ∙ sym (put-room b at t room),
-      )
-
--- the same text by another name
-pub as_text : (b : List ℕ) (at : ℕ) {c : List ℕ} {r : Option ℕ} {t u : List ℕ} → u ≡ t → (r ≡ wrote b at t) × (c ≡ put b at t) → (r ≡ wrote b at u) × (c ≡ put b at u)
-as_text b at e w = rw e w
 
 -- ---- what a text leaves as it was, and where it stands
 
@@ -180,6 +111,27 @@ module _ (b : List ℕ) (at : ℕ) (t : List ℕ) where
           absurd (omega arith)
       go (no h) = omega arith
 
+-- what a writer of the text t owes, w bytes long, from where it ends
+module _ (b : List ℕ) (at w : ℕ) (t : List ℕ) (q : w ≡ length t) where
+  pub no_end : None ≡ ends b at w → (None ≡ wrote b at t) × (b ≡ put b at t)
+  unfolding wrote
+  no_end h = let p : None ≡ wrote b at t = rw (← q) h in (p, sym (put_full b at t (wrote_none b at t (sym p))))
+
+  pub end-is : {e : ℕ} → Some e ≡ ends b at w → (e ≡ at + length t) × (at + length t ≤ length b)
+  unfolding wrote
+  end-is {e} h = wrote-next b at t e (rw (← q) (sym h))
+
+  pub slot-length : {e : ℕ} → Some e ≡ ends b at w → length (take (e - at) (drop at b)) ≡ length t
+  slot-length {e} h =
+      let p : (e ≡ at + length t) × (at + length t ≤ length b) = end-is h in
+      length-take-le (e - at) (drop at b) (omega (arith, length-drop at b)) ∙ omega arith
+
+  pub ended : {e : ℕ} {u : List ℕ} → Some e ≡ ends b at w → u ≡ t → (Some e ≡ wrote b at t) × (put_mid at (e - at) b u ≡ put b at t)
+  ended {e} {u} h r =
+      let p : (e ≡ at + length t) × (at + length t ≤ length b) = end-is h in
+      let k : e - at ≡ length t = omega arith in
+      (ap Some p.0 ∙ sym (wrote-room b at t p.1), rw (k, r) (ap (λ (l : List ℕ). take at b ++ (t ++ l)) (drop-drop (length t) at b) ∙ sym (put-room b at t p.1 ∙ append_assoc (take at b) t (drop (at + length t) b))))
+
 -- two texts, one behind the other, are one text
 pub put-put : (b : List ℕ) (at : ℕ) (t u : List ℕ) → at + length (t ++ u) ≤ length b → put (put b at t) (at + length t) u ≡ put b at (t ++ u)
 put-put b at t u h =
@@ -192,3 +144,23 @@ put-put b at t u h =
     ∙ ap (λ (r : List ℕ). (take at b ++ t) ++ u ++ r) (sym (drop-drop (length u) (at + length t) (put b at t)) ∙ ap (drop (length u)) (put-after b at t) ∙ drop-drop (length u) (at + length t) b ∙ ap (λ (k : ℕ). drop k b) e)
     ∙ ap (λ (p : List ℕ). p ++ drop (at + length (t ++ u)) b) (append_assoc (take at b) t u)
     ∙ sym (put-room b at (t ++ u) h)
+
+-- what a writer of two texts owes, from what the writers of each answered
+module _ (b : List ℕ) (at m : ℕ) (t u : List ℕ) (h : at + length (t ++ u) ≤ length b) (p : Some m ≡ wrote b at t) {c : List ℕ} (q : c ≡ put b at t) where
+  pub then-wrote : {r : Option ℕ} → r ≡ wrote c m u → r ≡ wrote b at (t ++ u)
+  then-wrote {r} e =
+      let l : length (t ++ u) ≡ length t + length u = length-append t u in
+      let k : m ≡ at + length t = (wrote-next b at t m (sym p)).0 in
+      let room : m + length u ≤ length c = omega (arith, ap length q, put-length b at t) in
+      e ∙ wrote-room c m u room ∙ ap Some (omega arith) ∙ sym (wrote-room b at (t ++ u) h)
+
+  pub then_put : {d : List ℕ} → d ≡ put c m u → d ≡ put b at (t ++ u)
+  then_put {d} e =
+      let k : m ≡ at + length t = (wrote-next b at t m (sym p)).0 in
+      e ∙ rw (q, k) (put-put b at t u h)
+
+-- ---- a value below zero, by its digits
+
+pub plain-down : (z : ℤ) {d : ℕ} → le_z (pos 0) z ≡ false → d ≡ nat_abs z → plain z ≡ 45 ∷ decimal d
+plain-down (pos n) h e = absurd (omega (arith, leb-false 0 n h))
+plain-down (negsuc n) h e = ap (λ (k : ℕ). 45 ∷ decimal k) (sym e)

@@ -3,6 +3,14 @@ use Rattle.std.specs.Prelude.{ℕ, zero, suc, ◌+◌, ◌-◌, ◌*◌, ◌≤�
 use Rattle.decimal.specs.Text.{is_digit, plain}
 use Rattle.decimal.specs.declared.read.Range.{Range}
 
+-- what the digit b is worth
+abbrev pub digit : ℕ → Option ℕ
+digit b = cond (is_digit b) (Some (b - 48)) None
+
+-- v with the digit d behind it, at most `most`, and none behind a leading zero
+abbrev pub with_digit : ℕ → ℕ → ℕ → Option ℕ
+with_digit most v d = cond (eqb v 0) None (cond (leb (v * 10 + d) most) (Some (v * 10 + d)) None)
+
 -- The digits that follow, where those before e are worth v and the whole is to be at most `most`.
 -- A further digit while v is 0 would stand behind a leading zero.
 unfoldable pub more : ℕ → ℕ → ℕ → List ℕ → Option (ℕ × ℕ)

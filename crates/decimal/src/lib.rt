@@ -14,8 +14,4 @@ pub const TAB: u8 = b'\t';
 
 pub const NEWLINE: u8 = b'\n';
 
-const ZERO: u8 = b'0';
-
-const NINE: u8 = b'9';
-
 const MINUS: u8 = b'-';

@@ -1,9 +1,8 @@
 // Reading a number at a place of a text.
-ghost use Rattle.std.specs.Prelude.{◌+◌, ◌-◌, ◌*◌, ◌≡◌, leb, get_or, drop};
-ghost use Rattle.decimal.specs.Text.{is_digit};
-ghost use Rattle.decimal.specs.Read.{more, digits, field_at, natural_at, signed_at, natural_behind_tab, signed_behind_tab};
+ghost use Rattle.std.specs.Prelude.{◌+◌, ◌≡◌, ◌≤◌, get_or, drop, length};
+ghost use Rattle.decimal.specs.Read.{digit, with_digit, more, digits, field_at, natural_at, signed_at, behind_tab, natural_behind_tab, signed_behind_tab};
 
-use crate::{MINUS, NINE, TAB, ZERO};
+use crate::{MINUS, TAB};
 
 // The values from least to most and, where below is not 0, those from -below to -1.
 #[derive(Clone, Copy)]
@@ -63,102 +62,83 @@ pub fn signed_at(s: &[u8], at: usize) -> Option<(i32, usize)>
 }
 
 // A number from least to most, behind the tab at a place.
+#[tactic(auto, unfolding(crate::specs::Read::natural_behind_tab))]
 pub fn natural_behind_tab(s: &[u8], at: usize, least: u64, most: u64) -> Option<(u64, usize)>
     ensures { result ≡ natural_behind_tab s.now at least most }
 {
-    if byte_at(s, at) == TAB {
-        return natural_at(s, at + 1, least, most);
-    }
-    None
+    natural_at(s, behind_tab(s, at)?, least, most)
 }
 
 // Any signed 32-bit number, behind the tab at a place.
+#[tactic(auto, unfolding(crate::specs::Read::signed_behind_tab))]
 pub fn signed_behind_tab(s: &[u8], at: usize) -> Option<(i32, usize)>
     ensures { result ≡ signed_behind_tab s.now at }
 {
-    if byte_at(s, at) == TAB {
-        return signed_at(s, at + 1);
-    }
-    None
+    signed_at(s, behind_tab(s, at)?)
 }
 
 // The byte at a place. Past the end stands 0: no digit, no minus, no tab, no newline.
 pub fn byte_at(s: &[u8], at: usize) -> u8
     ensures { result ≡ get_or s.now at 0 }
 {
-    if at < s.len() {
-        return s[at];
+    s.get(at).copied().unwrap_or(0)
+}
+
+// The place behind the tab at a place.
+fn behind_tab(s: &[u8], at: usize) -> Option<usize>
+    ensures { result ≡ behind_tab s.now at (Some (at + 1)) None }
+{
+    if byte_at(s, at) == TAB {
+        Some(at + 1)
+    } else {
+        None
     }
-    0
 }
 
 // A run of digits, worth at most most.
 fn digits_at(s: &[u8], at: usize, most: u64) -> Option<(u64, usize)>
     ensures { result ≡ digits most at (drop at s.now) }
 {
-    if s.len() <= at {
+    let first = digit(byte_at(s, at))?;
+    if most < first {
         return None;
     }
-    let b = s[at];
-    if !is_digit(b) {
-        return None;
-    }
-    let d = worth(b);
-    if most < d {
-        return None;
-    }
-    more_digits(s, at + 1, d, most)
+    more_digits(s, at + 1, first, most)
 }
 
 // The digits behind those worth first.
 fn more_digits(s: &[u8], from: usize, first: u64, most: u64) -> Option<(u64, usize)>
+    requires { from ≤ length s.now }
     ensures { result ≡ more most first from (drop from s.now) }
 {
     let mut v = first;
-    let mut i = from;
-    while i < s.len() {
-        let b = s[i];
-        if !is_digit(b) {
+    for i in from..s.len() {
+        let Some(d) = digit(s[i]) else {
             return Some((v, i));
-        }
-        if v == 0 {
-            return None;
-        }
-        let d = worth(b);
-        if !goes_in(v, d, most) {
-            return None;
-        }
-        v = v * 10 + d;
-        i += 1;
+        };
+        v = with_digit(v, d, most)?;
     }
-    Some((v, i))
+    Some((v, s.len()))
 }
 
-fn is_digit(b: u8) -> bool
-    ensures { result ≡ is_digit b }
+// What a digit is worth.
+#[tactic(auto, unfolding(crate::specs::Text::is_digit))]
+fn digit(b: u8) -> Option<u64>
+    ensures { result ≡ digit b }
 {
-    if ZERO <= b {
-        return b <= NINE;
+    match b {
+        b'0'..=b'9' => Some(u64::from(b - b'0')),
+        _ => None,
     }
-    false
 }
 
-// What a digit is worth; 0 for a byte below the digits.
-fn worth(b: u8) -> u64
-    ensures { result ≡ b - 48 }
+// v with the digit d behind it: at most most, and none behind a leading zero.
+fn with_digit(v: u64, d: u64, most: u64) -> Option<u64>
+    ensures { result ≡ with_digit most v d }
 {
-    if ZERO <= b {
-        return (b - ZERO) as u64;
+    if v == 0 {
+        return None;
     }
-    0
-}
-
-// Whether v with the digit d behind it is at most most; no sum overflows.
-fn goes_in(v: u64, d: u64, most: u64) -> bool
-    ensures { result ≡ leb (v * 10 + d) most }
-{
-    if v <= most / 10 {
-        return d <= most - v * 10;
-    }
-    false
+    let w = v.checked_mul(10)?.checked_add(d)?;
+    if w <= most { Some(w) } else { None }
 }

@@ -4,7 +4,6 @@
 
 ghost use Rattle.std.specs.Prelude.{◌≤◌, IfOk, length};
 
-use decimal::{Natural, Put, Signed};
 use std::io;
 use std::io::{ErrorKind, Read};
 
@@ -37,75 +36,41 @@ fn read_full(input: &mut impl Read, buf: &mut [u8]) -> io::Result<usize>
     Ok(done)
 }
 
+// Each line that a newline ends.
 fn show_lines(rt: &impl Print, s: &[u8]) -> io::Result<()> {
-    let mut start = 0;
-    let mut i = 0;
-    while i < s.len() {
-        if s[i] == b'\n' {
-            show_line(rt, &s[start..i])?;
-            start = i + 1;
+    for line in s.split_inclusive(|b| *b == b'\n') {
+        if let [text @ .., b'\n'] = line {
+            show_line(rt, text)?;
         }
-        i += 1;
     }
     Ok(())
 }
 
 fn show_line(rt: &impl Print, text: &[u8]) -> io::Result<()> {
     rt.write_all(text)?;
-    show_natural(rt, text, 63)?;
-    show_natural(rt, text, 4096)?;
-    show_natural(rt, text, 65535)?;
-    show_natural(rt, text, 4294967295)?;
-    show_natural(rt, text, 18446744073709551615)?;
-    show_signed(rt, text)?;
+    for most in [63, 4096, 65535, 4294967295, 18446744073709551615] {
+        let read = decimal::natural_at(text, 0, 0, most);
+        show(rt, text, read, |out, n| decimal::put_natural(out, 0, n))?;
+    }
+    let read = decimal::signed_at(text, 0);
+    show(rt, text, read, |out, n| decimal::put_signed(out, 0, n))?;
     rt.write_all(b"\n")
 }
 
-// The number is the whole text, or nothing.
-fn show_natural(rt: &impl Print, text: &[u8], most: u64) -> io::Result<()> {
+// A space, and the number that was read, as the writer puts it back, or bad where it is not the whole text.
+fn show<T: Copy, Put: FnOnce(&mut [u8], T) -> Option<usize>>(
+    rt: &impl Print,
+    text: &[u8],
+    read: Option<(T, usize)>,
+    put: Put,
+) -> io::Result<()>
+    requires { Put.IsAlwaysCallable put }
+{
     let mut out = [0u8; 24];
-    let n = decimal::natural_at(text, 0, 0, most);
-    match n {
-        Natural::Number(v, e) => {
-            if e == text.len() {
-                let p = decimal::put_natural(&mut out, 0, v);
-                show(rt, &out, p)
-            } else {
-                show(rt, &out, Put::Full)
-            }
-        }
-        Natural::Bad => show(rt, &out, Put::Full),
-    }
-}
-
-fn show_signed(rt: &impl Print, text: &[u8]) -> io::Result<()> {
-    let mut out = [0u8; 24];
-    let n = decimal::signed_at(text, 0);
-    match n {
-        Signed::Number(v, e) => {
-            if e == text.len() {
-                let p = decimal::put_signed(&mut out, 0, v);
-                show(rt, &out, p)
-            } else {
-                show(rt, &out, Put::Full)
-            }
-        }
-        Signed::Bad => show(rt, &out, Put::Full),
-    }
-}
-
-// A space, and what was written.
-fn show(rt: &impl Print, out: &[u8], p: Put) -> io::Result<()> {
+    let end = match read {
+        Some((n, e)) if e == text.len() => put(&mut out, n),
+        _ => None,
+    };
     rt.write_all(b" ")?;
-    match p {
-        Put::Next(e) => show_first(rt, out, e),
-        Put::Full => rt.write_all(b"bad"),
-    }
-}
-
-fn show_first(rt: &impl Print, out: &[u8], e: usize) -> io::Result<()> {
-    if e <= out.len() {
-        return rt.write_all(&out[..e]);
-    }
-    Ok(())
+    rt.write_all(end.and_then(|e| out.get(..e)).unwrap_or(b"bad"))
 }

@@ -1,7 +1,5 @@
 -- `decimal::read::field_at` meets its contract: a minus stands within the text, so the place behind it is a number of the machine.
-use Rattle.std.proofs.Common.{arith, sym, ap, refl, ◌∙◌, ◌≡◌, get_or}
-use Rattle.std.proofs.lemmas.Int.{ints}
-use Rattle.decimal.specs.Read.{unsigned, negative}
+use Rattle.std.proofs.Common.{arith, sym, refl, ◌∙◌}
 use Rattle.decimal.proofs.Steps.{byte_within, field_minus, field_plain, unsigned_in, unsigned_out, unsigned-bad, negative-zero, negative-some, negative-bad}
 use Rattle.decimal.proofs.Values.{wide, wide_minus}
 use Rattle.decimal.proofs.read.field_at.Goals as goal

@@ -1,12 +1,7 @@
 -- `decimal::read::more_digits` meets its contract. The invariant: what is left to read gives the whole answer.
-use Prim.Native.Nat.{◌-◌}
-use mathlib.Core.Path.{◌≡◌}
-use lib.ListN.{length, drop}
+use Rattle.std.proofs.Common.{◌≡◌, drop}
 use Rattle.decimal.specs.Read.{more}
 use Rattle.decimal.proofs.read.more_digits.Given as goal
 
 abbrev pub invariant-loop-i : goal.invariant-loop-i
 invariant-loop-i l = more l.most l.v l.i (drop l.i l.s) ≡ more l.most l.first l.from (drop l.from l.s)
-
-abbrev pub decreases-loop-i : goal.decreases-loop-i
-decreases-loop-i l = length l.s - l.i

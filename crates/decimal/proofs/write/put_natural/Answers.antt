@@ -1,27 +1,19 @@
 -- `decimal::write::put_natural` meets its contract.
-use Prim.Native.Nat.{ℕ, ◌+◌, ◌≤◌}
-use native.Mathlib.Omega.{arith}
-use mathlib.Core.Path.{ap, sym, ◌∙◌}
-use borrow.Author.Tests.{leb-true, not-false}
-use lib.ListN.{length}
-use Rattle.decimal.proofs.Writing.{refuses, writes}
+use mathlib.Core.Path.{◌∙◌}
+use Rattle.decimal.proofs.Writing.{no_end, slot-length, ended}
 use Rattle.decimal.proofs.write.put_natural.Goals as goal
-use Rattle.decimal.proofs.write.put_natural.Goals.{Else-not-has_room}
 
-pub returns-then-not-has_room : goal.returns-then-not-has_room
-returns-then-not-has_room c = record { reply = (refuses _ _ _ _ c.width-w.ensures c.has_room.ensures c.if-not-has_room.true-raw).0; buffer = (refuses _ _ _ _ c.width-w.ensures c.has_room.ensures c.if-not-has_room.true-raw).1 }
+pub returns-in_err-end-clause-reply : goal.returns-in_err-end-clause-reply
+returns-in_err-end-clause-reply c = c.from_residual.ensures ∙ (no_end _ _ _ _ c.width.ensures c.in_err-end.ensures).0
 
-room : (c : Else-not-has_room) → c.args.at + c.width-w.result ≤ length c.args.buf.now
-room c = leb-true _ _ (sym c.has_room.ensures ∙ not-false _ c.if-not-has_room.false-raw)
-
-pub overflow_add-at : goal.overflow_add-at
-overflow_add-at c = omega (arith, room (goal.at.overflow_add-at c).Else-not-has_room)
+pub returns-in_err-end-clause-buffer : goal.returns-in_err-end-clause-buffer
+returns-in_err-end-clause-buffer c = (no_end _ _ _ _ c.width.ensures c.in_err-end.ensures).1
 
 pub spell-requires : goal.spell-requires
-spell-requires c = (ap (λ (k : ℕ). c.args.at + k) c.width-w.ensures, room (goal.at.spell-requires c).Else-not-has_room)
+spell-requires c = slot-length _ _ _ _ c.width.ensures c.in_ok-end.ensures
 
-pub overflow_add-result : goal.overflow_add-result
-overflow_add-result c = omega (arith, room (goal.at.overflow_add-result c).Else-not-has_room)
+pub returns-clause-reply : goal.returns-clause-reply
+returns-clause-reply c = (ended _ _ _ _ c.width.ensures c.in_ok-end.ensures c.spell.ensures).0
 
-pub returns : goal.returns
-returns c = record { reply = (writes _ _ _ _ c.width-w.ensures c.has_room.ensures c.if-not-has_room.false-raw c.spell.ensures).0; buffer = (writes _ _ _ _ c.width-w.ensures c.has_room.ensures c.if-not-has_room.false-raw c.spell.ensures).1 }
+pub returns-clause-buffer : goal.returns-clause-buffer
+returns-clause-buffer c = (ended _ _ _ _ c.width.ensures c.in_ok-end.ensures c.spell.ensures).1

@@ -1,13 +1,7 @@
--- `decimal::write::spell` meets its contract. The invariant: storing the digits of what is left gives the whole.
-use Prim.Native.Nat.{◌+◌, ◌<◌}
-use mathlib.Core.Path.{◌≡◌}
-use lib.ListN.{length}
-use lib.Seq.{sets}
-use Rattle.decimal.specs.Text.{decimal}
+-- `decimal::write::spell` meets its contract. The invariant: the digits of what is left, in the places before i, and those stored are the whole.
+use Rattle.std.proofs.Common.{◌≡◌, ◌++◌, length, drop}
+use Rattle.decimal.specs.Text.{spelt, decimal}
 use Rattle.decimal.proofs.write.spell.Given as goal
 
-abbrev pub invariant-loop-rest : goal.invariant-loop-rest
-invariant-loop-rest l = (l.at + length (decimal l.rest) ≡ l.i + 1) × ((l.i < length l.buf) × ((length l.buf ≡ length l.initial.buf) × (sets l.buf l.at (decimal l.rest) ≡ sets l.initial.buf l.at (decimal l.n))))
-
-abbrev pub decreases-loop-rest : goal.decreases-loop-rest
-decreases-loop-rest l = l.rest
+abbrev pub invariant-loop-i : goal.invariant-loop-i
+invariant-loop-i l = (length (spelt l.i l.rest) ≡ l.i) × (spelt l.i l.rest ++ drop l.i l.buf ≡ decimal l.n)
