@@ -128,7 +128,7 @@ pub fn add_read(memory: &mut [u32; WORDS], seen: Seen)
     }
 }
 
-// One verdict more; where there are 512, nothing is stored.
+// One verdict more, as its place in the order ok, RC, BV, FV, SV, WC; where there are 512, nothing is stored.
 #[tactic(auto, unfolding(crate::specs::Book::judged_added))]
 pub fn add_verdict(memory: &mut [u32; WORDS], judged: Judged)
     ensures { memory.new ≡ judged_added memory.old judged }

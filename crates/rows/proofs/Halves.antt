@@ -5,7 +5,7 @@ use native.Mathlib.Numerals.{add-one}
 use Rattle.std.specs.Int.{from_bool}
 use mathlib.Core.Path.{◌≡◌, refl, sym, ◌∙◌, ap}
 use mathlib.Core.Bool.{Bool, true, false, cond, ◌&&◌}
-use mathlib.Core.List.{List, [], ◌∷◌}
+use mathlib.Core.List.{List}
 use lib.Dec.{eqb, leb, ltb}
 use lib.ListN.{get_or}
 use lib.Pow.{field, mod-mod-pow, shr-shr}
@@ -52,6 +52,16 @@ half_le half x e = rw e (go (ltb x 32))
     go true = omega arith
     go false = omega arith
 
+-- no line is after one and at or before another that is not later
+never : (a : Bool) (e after until : ℕ) → until ≤ after → (a && (ltb after e && leb e until)) ≡ false
+never a e after until h = go a (ltb after e) refl (leb e until) refl
+  where
+    go : (a b : Bool) → ltb after e ≡ b → (c : Bool) → leb e until ≡ c → (a && (b && c)) ≡ false
+    go true true p true q = absurd (omega (arith, ltb-true after e p, leb-true e until q))
+    go true true p false q = refl
+    go true false p c q = refl
+    go false b p c q = refl
+
 module _ (ws : List ℕ) (x : ℕ) where
   -- the row's word has the key exactly if its half has the key's remainder
   pub half_has : (i : ℕ) → x < 64 → has (row_at ws i).keys x ≡ has (get_or ws (half_from x + i) 0) (x % 32)
@@ -81,6 +91,12 @@ module _ (ws : List ℕ) (x : ℕ) where
       more true = omega arith
       more false = omega arith
 
+  -- and where no line is in the span
+  pub within_none : (i n after until : ℕ) → until ≤ after → (n ≤ i) × (n ≡ count (made_within x after until) (rows_of ws i))
+      → (n ≤ i + 1) × (n ≡ count (made_within x after until) (rows_of ws (i + 1)))
+  unfolding rows_of count
+  within_none i n after until h f = (omega (arith, f.0), rw (add-one i, never (has (row_at ws i).keys x) (row_at ws i).end after until h) f.1)
+
   -- no row has a key past 63
   pub none_has : (p : Row → Bool) → 64 ≤ x → (n : ℕ) → 0 ≡ count (λ (r : Row). has r.keys x && p r) (rows_of ws n)
   unfolding count rows_of bit
@@ -95,31 +111,16 @@ module _ (ws : List ℕ) (x : ℕ) where
   unfolding rows_between
   between_past after before h = none_has (λ (r : Row). ltb after r.end && ltb r.end before) h (row_count ws)
 
--- no line is after one and before another that is not later
-pub never : (a : Bool) (e from before : ℕ) → before ≤ from → (a && (ltb from e && ltb e before)) ≡ false
-never a e from before h = go a (ltb from e) refl (ltb e before) refl
+-- the lines strictly between two are those after the one and at or before the line in front of the other
+last_line : (a : Bool) (e from before : ℕ) → (a && (ltb from e && leb e (before - 1))) ≡ (a && (ltb from e && ltb e before))
+last_line a e from before = go (ltb from e) refl (leb e (before - 1)) refl
   where
-    go : (a b : Bool) → ltb from e ≡ b → (c : Bool) → ltb e before ≡ c → (a && (b && c)) ≡ false
-    go true true p true q = absurd (omega (arith, ltb-true from e p, ltb-true e before q))
-    go true true p false q = refl
-    go true false p c q = refl
-    go false b p c q = refl
+    go : (b : Bool) → ltb from e ≡ b → (c : Bool) → leb e (before - 1) ≡ c → (a && (b && c)) ≡ (a && (b && ltb e before))
+    go false g c f = refl
+    go true g true f = rw (lt-ltb e before (omega (arith, leb-true e (before - 1) f, ltb-true from e g)))
+    go true g false f = rw (le-ltb e before (omega (arith, leb-false e (before - 1) f)))
 
-pub between_empty : (rows : List Row) (x from before : ℕ) → before ≤ from → 0 ≡ rows_between rows x from before
-unfolding rows_between count
-between_empty [] x from before h = refl
-between_empty (r ∷ rs) x from before h = rw (never (has r.keys x) r.end from before h) (between_empty rs x from before h)
-
--- the lines strictly before one are those at or before the line in front of it
-last_line : (a b : Bool) (e before : ℕ) → 0 < before → (a && (b && leb e (before - 1))) ≡ (a && (b && ltb e before))
-last_line a b e before h = go (leb e (before - 1)) refl
-  where
-    go : (c : Bool) → leb e (before - 1) ≡ c → (a && (b && c)) ≡ (a && (b && ltb e before))
-    go true f = rw (lt-ltb e before (omega (arith, leb-true e (before - 1) f)))
-    go false f = rw (le-ltb e before (omega (arith, leb-false e (before - 1) f)))
-
-pub between_last : (rows : List Row) (x from before : ℕ) → from < before → rows_within rows x from (before - 1) ≡ rows_between rows x from before
+pub between_last : (rows : List Row) (x from before : ℕ) → rows_within rows x from (before - 1) ≡ rows_between rows x from before
 unfolding rows_within rows_between
-between_last rows x from before h =
-    count_same (made_within x from (before - 1)) (made_between x from before)
-    (every_each (λ r. last_line (has r.keys x) (ltb from r.end) r.end before (omega arith)) rows)
+between_last rows x from before =
+    count_same (made_within x from (before - 1)) (made_between x from before) (every_each (λ r. last_line (has r.keys x) r.end from before) rows)

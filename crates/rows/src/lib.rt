@@ -1,7 +1,7 @@
 // The rows of the transactions started, in the judge's memory: the newest of a name, the versions of a key between two lines, and what WC asks.
 #![tactic(auto)]
 
-ghost use Rattle.std.specs.Prelude.{◌<◌, ◌≡◌, ◌&&◌, leb, ltb};
+ghost use Rattle.std.specs.Prelude.{◌<◌, ◌≡◌, ◌≤◌, ◌&&◌, false, leb, ltb};
 ghost use Rattle.lists.specs.Lists.{any};
 ghost use Rattle.records.specs.Ledger.{has, overtakes, resolved, rows_between};
 ghost use Rattle.book.specs.Book.{rows_in};
@@ -15,10 +15,13 @@ use records::{NOWHERE, Row};
 pub fn find(memory: &[u32; WORDS], name: u32) -> usize
     ensures { result ≡ row_number (rows_in memory.now) name }
 {
-    for i in (0..book::rows(memory)).rev() {
-        if memory[NAMES + i] == name {
-            return i + 1;
+    // A `for` over the numbers backwards took 8 per cent more of the judge's time, on 2,500 reads over 511 versions.
+    let mut i = book::rows(memory);
+    while 0 < i {
+        if memory[NAMES + (i - 1)] == name {
+            return i;
         }
+        i -= 1;
     }
     0
 }
@@ -40,7 +43,7 @@ pub struct Counted {
 
 // The versions of a key committed after one line and at or before another, and those committed strictly between two lines. Where no line is
 // between the two, the second are not looked for.
-#[tactic(auto, using(crate::proofs::Halves::within_past, crate::proofs::Halves::between_past, crate::proofs::Halves::between_empty, crate::proofs::Halves::between_last))]
+#[tactic(auto, using(crate::proofs::Halves::within_past, crate::proofs::Halves::between_past, crate::proofs::Halves::between_last))]
 pub fn count_both(
     memory: &[u32; WORDS],
     key: u32,
@@ -58,36 +61,57 @@ pub fn count_both(
             between: 0,
         };
     }
-    let within = count_within(memory, key, after, until);
-    let between = if from < before {
-        count_within(memory, key, from, before - 1)
-    } else {
-        0
+    let within = Span { after, until };
+    // Strictly before a line is at or before the line in front of it.
+    let between = Span {
+        after: from,
+        until: before.saturating_sub(1),
     };
-    Counted { within, between }
+    if from < before {
+        count::<true>(memory, key, within, between)
+    } else {
+        count::<false>(memory, key, within, between)
+    }
 }
 
-// The judge's hot loop. A key's bit stands in one half of a row's word.
+// The lines after one and at or before another.
+#[derive(Clone, Copy)]
+struct Span {
+    after: u32,
+    until: u32,
+}
+
+// The judge's hot loop: one walk for both spans, or for the first alone.
 #[tactic(auto, using(crate::proofs::Halves::half_le), unfolding(crate::specs::Table::rows_within, book::specs::Book::rows_of, lists::specs::Lists::count))]
-fn count_within(memory: &[u32; WORDS], key: u32, after: u32, until: u32) -> u32
-    requires { key < 64 }
-    ensures { result ≡ rows_within (rows_in memory.now) key after until }
+fn count<const BOTH: bool>(memory: &[u32; WORDS], key: u32, within: Span, between: Span) -> Counted
+    requires key { key < 64 }
+    requires alone { BOTH ≡ false → between.until ≤ between.after }
+    ensures within { result.within ≡ rows_within (rows_in memory.now) key within.after within.until }
+    ensures between { result.between ≡ rows_within (rows_in memory.now) key between.after between.until }
 {
     let half = half_of(key);
     let bit = key % 32;
     let mut n = 0;
+    let mut m = 0;
     for i in 0..book::rows(memory) {
-        n += u32::from(is_within(memory[half + i], bit, memory[ENDS + i], after, until));
+        let end = memory[ENDS + i];
+        n += u32::from(is_within(memory[half + i], bit, end, within));
+        if BOTH {
+            m += u32::from(is_within(memory[half + i], bit, end, between));
+        }
     }
-    n
+    Counted {
+        within: n,
+        between: m,
+    }
 }
 
-// A row with the key whose commit line is after one line and at or before another. The lines are asked first, since few rows are within them.
-fn is_within(half: u32, bit: u32, end: u32, after: u32, until: u32) -> bool
+// A row with the key whose commit line is in the span. The lines are asked first, since few rows are within them.
+fn is_within(half: u32, bit: u32, end: u32, span: Span) -> bool
     requires { bit < 32 }
-    ensures { result ≡ (has half bit && (ltb after end && leb end until)) }
+    ensures { result ≡ (has half bit && (ltb span.after end && leb end span.until)) }
 {
-    after < end && end <= until && (half >> bit) % 2 == 1
+    span.after < end && end <= span.until && (half >> bit) % 2 == 1
 }
 
 // Where the half of the word that has a key begins.

@@ -16,6 +16,8 @@ use Rattle.records.specs.declared.Row.{Row}
 use Rattle.records.specs.declared.Seen.{Seen}
 use Rattle.rows.specs.Table.{rows_within, made_within}
 use Rattle.trial.specs.Trial.{far_of, far_by}
+use Rattle.trial.specs.declared.Rank.{Rank}
+use Rattle.trial.specs.declared.Rank.TheVariants.{BV, FV, Kept}
 
 module _ (low high : ℕ) (h : low ≤ high) where
   one : (b : Bool) (e : ℕ) (l : Bool) → leb e low ≡ l → (k : Bool) → leb e high ≡ k → (z : Bool) → ltb 0 e ≡ z
@@ -44,8 +46,8 @@ shortfall : (a b : ℕ) → a < b → pos a -ℤ pos b ≡ negsuc (b - suc a)
 shortfall a zero h = absurd (omega arith)
 shortfall a (suc b) h = rw (lt-ltb a (suc b) h)
 
-far : ℤ → ℕ → ℕ → ℕ
-far d k1 k2 = cond (not (lt_z d (pos k1))) 1 (cond (not (le_z (neg_ℤ d) (pos k2))) 2 4)
+far : ℤ → ℕ → ℕ → Rank
+far d k1 k2 = cond (not (lt_z d (pos k1))) BV (cond (not (le_z (neg_ℤ d) (pos k2))) FV Kept)
 
 never_early : (w k2 : ℕ) → not (le_z (neg_ℤ (pos w)) (pos k2)) ≡ false
 never_early zero k2 = rw (leb-zero k2)
@@ -57,42 +59,42 @@ module _ (a b w k1 k2 : ℕ) where
     behind : pos a -ℤ pos b ≡ pos w
     behind = difference a b (omega arith) ∙ ap pos (omega arith)
 
-    behind-stale : k1 ≤ w → 1 ≡ far (pos a -ℤ pos b) k1 k2
+    behind-stale : k1 ≤ w → BV ≡ far (pos a -ℤ pos b) k1 k2
     unfolding far
     behind-stale h = rw (behind, le-ltb w k1 h)
 
-    behind-fresh : w < k1 → 4 ≡ far (pos a -ℤ pos b) k1 k2
+    behind-fresh : w < k1 → Kept ≡ far (pos a -ℤ pos b) k1 k2
     unfolding far
     behind-fresh h = rw (behind, lt-ltb w k1 h, never_early w k2)
 
-    behind_far : cond (leb k1 w) 1 4 ≡ far (pos a -ℤ pos b) k1 k2
+    behind_far : cond (leb k1 w) BV Kept ≡ far (pos a -ℤ pos b) k1 k2
     behind_far = go (leb k1 w) refl
       where
-        go : (t : Bool) → leb k1 w ≡ t → cond t 1 4 ≡ far (pos a -ℤ pos b) k1 k2
+        go : (t : Bool) → leb k1 w ≡ t → cond t BV Kept ≡ far (pos a -ℤ pos b) k1 k2
         go true f = behind-stale (leb-true k1 w f)
         go false f = behind-fresh (leb-false k1 w f)
 
   module _ (e : b ≡ a + w) where
-    ahead-early : k2 < w → 2 ≡ far (pos a -ℤ pos b) k1 k2
+    ahead-early : k2 < w → FV ≡ far (pos a -ℤ pos b) k1 k2
     unfolding far
     ahead-early h = rw (shortfall a b (omega arith), lt-leb (suc (b - suc a)) k2 (omega arith))
 
-    ahead-stale : w ≡ 0 → k1 ≡ 0 → 1 ≡ far (pos a -ℤ pos b) k1 k2
+    ahead-stale : w ≡ 0 → k1 ≡ 0 → BV ≡ far (pos a -ℤ pos b) k1 k2
     unfolding far
     ahead-stale z h = rw (difference a b (omega arith), le-ltb (a - b) k1 (omega arith))
 
-    ahead_even : w ≡ 0 → (k1 ≡ 0 → ⊥) → 4 ≡ far (pos a -ℤ pos b) k1 k2
+    ahead_even : w ≡ 0 → (k1 ≡ 0 → ⊥) → Kept ≡ far (pos a -ℤ pos b) k1 k2
     unfolding far
     ahead_even z h = rw (difference a b (omega arith), lt-ltb (a - b) k1 (omega arith), never_early (a - b) k2)
 
-    ahead_near : (w ≡ 0 → ⊥) → w ≤ k2 → 4 ≡ far (pos a -ℤ pos b) k1 k2
+    ahead_near : (w ≡ 0 → ⊥) → w ≤ k2 → Kept ≡ far (pos a -ℤ pos b) k1 k2
     unfolding far
     ahead_near z h = rw (shortfall a b (omega arith), le-leb (suc (b - suc a)) k2 (omega arith))
 
-    ahead_far : cond (ltb k2 w) 2 (cond (eqb w 0 && eqb k1 0) 1 4) ≡ far (pos a -ℤ pos b) k1 k2
+    ahead_far : cond (ltb k2 w) FV (cond (eqb w 0 && eqb k1 0) BV Kept) ≡ far (pos a -ℤ pos b) k1 k2
     ahead_far = go (ltb k2 w) refl (eqb w 0) refl (eqb k1 0) refl
       where
-        go : (t : Bool) → ltb k2 w ≡ t → (u : Bool) → eqb w 0 ≡ u → (v : Bool) → eqb k1 0 ≡ v → cond t 2 (cond (u && v) 1 4) ≡ far (pos a -ℤ pos b) k1 k2
+        go : (t : Bool) → ltb k2 w ≡ t → (u : Bool) → eqb w 0 ≡ u → (v : Bool) → eqb k1 0 ≡ v → cond t FV (cond (u && v) BV Kept) ≡ far (pos a -ℤ pos b) k1 k2
         go true f u g v h = ahead-early (ltb-true k2 w f)
         go false f true g true h = ahead-stale (eqb-true w 0 g) (eqb-true k1 0 h)
         go false f true g false h = ahead_even (eqb-true w 0 g) (eqb-false k1 0 h)
@@ -112,8 +114,8 @@ module _ (rows : List Row) (r : Row) (s : Seen) (n : ℕ) where
       let sum : rows_up_to rows s.key s.line ≡ rows_up_to rows s.key r.start + n = rw e (up_to_more r.start s.line (omega arith) rows s.key) in
       rw (lt-leb s.line r.start h) (ahead_far _ _ n r.bounds.k1 r.bounds.k2 sum)
 
-  pub far-by : (low high : ℕ) → low ≡ min r.start s.line → high ≡ max r.start s.line → n ≡ rows_within rows s.key low high → far_by r s.line n ≡ far_of rows r s
-  far-by low high f g e = go (leb s.line r.start) refl
+  pub far_tied : (low high : ℕ) → low ≡ min r.start s.line → high ≡ max r.start s.line → n ≡ rows_within rows s.key low high → far_by r s.line n ≡ far_of rows r s
+  far_tied low high f g e = go (leb s.line r.start) refl
     where
       go : (t : Bool) → leb s.line r.start ≡ t → far_by r s.line n ≡ far_of rows r s
       go true k =

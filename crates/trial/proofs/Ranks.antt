@@ -1,13 +1,16 @@
 -- The first rule broken by any read is the least of the reads' ranks, and only the latest line read matters as SV's y.
-use Prim.Native.Nat.{ℕ, zero, suc, ◌≤◌, ◌<◌, min, max}
+use Prim.Native.Nat.{ℕ, ◌≤◌, max}
 use native.Mathlib.Omega.{arith}
-use mathlib.Core.Path.{◌≡◌, refl, sym, ◌∙◌, ap}
+use mathlib.Core.Path.{◌≡◌, refl, sym, ◌∙◌}
 use mathlib.Core.Bool.{Bool, true, false, cond, ◌||◌, ◌&&◌, and-false, false≢true}
 use mathlib.Core.List.{List, [], ◌∷◌}
 use lib.Dec.{leb, ltb}
-use lib.ListN.{length}
 use borrow.Author.Tests.{ltb-true, ltb-false, lt-ltb, le-ltb, leb-true, leb-false, eq-eqb, ne_eqb}
-use Rattle.lists.specs.Lists.{any, find}
+use Rattle.std.proofs.Math.Bool.{or_comm, or_assoc}
+use Rattle.std.specs.List.{fold}
+use Rattle.std.specs.Ordering.{ord_min}
+use Rattle.trial.specs.contracts.RankOrd.TheImpl as rank_ord
+use Rattle.lists.specs.Lists.{any}
 use Rattle.lists.proofs.Every.{every_each}
 use Rattle.lists.proofs.Any.{any_same}
 use Rattle.lists.proofs.Count.{count_mono, count_none}
@@ -15,8 +18,10 @@ use Rattle.records.specs.Ledger.{first, unread, stale, early, apart, overtakes, 
 use Rattle.records.specs.declared.Row.{Row}
 use Rattle.records.specs.declared.Seen.{Seen}
 use Rattle.records.specs.declared.Verdict.{Verdict}
-use Rattle.records.specs.declared.Verdict.TheVariants.{Ok, RC, BV, FV, SV, WC}
-use Rattle.trial.specs.Trial.{latest_of, outrun, rules, rank_of, far_of, least_of, ruled}
+use Rattle.records.specs.declared.Verdict.TheVariants as verdict
+use Rattle.trial.specs.declared.Rank.{Rank}
+use Rattle.trial.specs.declared.Rank.TheVariants.{RC, BV, FV, SV, Kept}
+use Rattle.trial.specs.Trial.{latest_of, outrun, ranked, rank_of, first_of, far_of, ruled}
 
 -- more versions lie before a later line
 pub between_grows : (rows : List Row) (x after low high : ℕ) → low ≤ high → rows_between rows x after low ≤ rows_between rows x after high
@@ -66,43 +71,59 @@ module _ (rows : List Row) (r : Row) (x : Seen) where
           let m : max y.line (latest_of ys) ≡ y.line = omega (arith, leb-false y.line (latest_of ys) e) in
           rw (m, ← below) (other _ _ (between_grows rows x.key x.line (latest_of ys) y.line (omega (arith, leb-false y.line (latest_of ys) e))))
 
--- the place of the first rule that any read breaks
-first_of : List (Seen → Bool) → List Seen → ℕ
-first_of ps l = find (λ (p : Seen → Bool). any p l) ps
+-- the first of two rules, by the order that Rank derives
+abbrev pub lesser : Rank → Rank → Rank
+lesser = ord_min (rank_ord.ghosts).cmp
 
-nearer : (a b : Bool) (m n : ℕ) → min (cond a 0 (suc m)) (cond b 0 (suc n)) ≡ cond (a || b) 0 (suc (min m n))
-nearer true b m n = omega arith
-nearer false true m n = omega arith
-nearer false false m n = omega arith
+-- the first rule that one of two breaks
+lesser_ranked : (a b c d a' b' c' d' : Bool) → lesser (ranked a b c d) (ranked a' b' c' d') ≡ ranked (a || a') (b || b') (c || c') (d || d')
+lesser_ranked true b c d true b' c' d' = refl
+lesser_ranked true b c d false true c' d' = refl
+lesser_ranked true b c d false false true d' = refl
+lesser_ranked true b c d false false false true = refl
+lesser_ranked true b c d false false false false = refl
+lesser_ranked false true c d true b' c' d' = refl
+lesser_ranked false true c d false true c' d' = refl
+lesser_ranked false true c d false false true d' = refl
+lesser_ranked false true c d false false false true = refl
+lesser_ranked false true c d false false false false = refl
+lesser_ranked false false true d true b' c' d' = refl
+lesser_ranked false false true d false true c' d' = refl
+lesser_ranked false false true d false false true d' = refl
+lesser_ranked false false true d false false false true = refl
+lesser_ranked false false true d false false false false = refl
+lesser_ranked false false false true true b' c' d' = refl
+lesser_ranked false false false true false true c' d' = refl
+lesser_ranked false false false true false false true d' = refl
+lesser_ranked false false false true false false false true = refl
+lesser_ranked false false false true false false false false = refl
+lesser_ranked false false false false true b' c' d' = refl
+lesser_ranked false false false false false true c' d' = refl
+lesser_ranked false false false false false false true d' = refl
+lesser_ranked false false false false false false false true = refl
+lesser_ranked false false false false false false false false = refl
 
-first_more : (ps : List (Seen → Bool)) (s : Seen) (ss : List Seen) → min (rank_of ps s) (first_of ps ss) ≡ first_of ps (s ∷ ss)
-unfolding first_of rank_of find any
-first_more [] s ss = refl
-first_more (p ∷ ps) s ss = nearer (p s) (any p ss) _ _ ∙ ap (λ (n : ℕ). cond (p s || any p ss) 0 (suc n)) (first_more ps s ss)
+module _ (rows : List Row) (r : Row) (y : ℕ) where
+  folded : (a b c d : Bool) (l : List Seen) → fold (λ (k : Rank) (s : Seen). lesser k (rank_of rows r y s)) (ranked a b c d) l
+      ≡ ranked (a || any unread l) (b || any (stale rows r) l) (c || any (early rows r) l) (d || any (outrun rows r y) l)
+  unfolding rank_of any
+  folded a b c d [] = rw (or_comm a false, or_comm b false, or_comm c false, or_comm d false)
+  folded a b c d (s ∷ ss) =
+      rw (lesser_ranked a b c d (unread s) (stale rows r s) (early rows r s) (outrun rows r y s), folded (a || unread s) (b || stale rows r s) (c || early rows r s) (d || outrun rows r y s) ss, or_assoc a (unread s) (any unread ss), or_assoc b (stale rows r s) (any (stale rows r) ss), or_assoc c (early rows r s) (any (early rows r) ss), or_assoc d (outrun rows r y s) (any (outrun rows r y) ss))
 
-first-none : (ps : List (Seen → Bool)) → length ps ≡ first_of ps []
-unfolding first_of find any
-first-none [] = refl
-first-none (p ∷ ps) = ap suc (first-none ps)
+  pub first_folded : (l : List Seen) → fold (λ (k : Rank) (s : Seen). lesser k (rank_of rows r y s)) Kept l ≡ first_of rows r y l
+  unfolding first_of
+  first_folded l = folded false false false false l
 
-least_first : (ps : List (Seen → Bool)) (l : List Seen) → least_of ps l ≡ first_of ps l
-unfolding least_of
-least_first ps [] = first-none ps
-least_first ps (s ∷ ss) = ap (λ (n : ℕ). min (rank_of ps s) n) (least_first ps ss) ∙ first_more ps s ss
+folded_latest : (y : ℕ) (l : List Seen) → fold (λ (y : ℕ) (s : Seen). max y s.line) y l ≡ max y (latest_of l)
+unfolding latest_of
+folded_latest y [] = omega arith
+folded_latest y (s ∷ ss) = omega (arith, folded_latest (max y s.line) ss)
 
-pub ruled-rest : (n : ℕ) (v : Verdict) → 3 < n → ruled n v ≡ v
-unfolding ruled
-ruled-rest zero v h = absurd (omega arith)
-ruled-rest (suc zero) v h = absurd (omega arith)
-ruled-rest (suc (suc zero)) v h = absurd (omega arith)
-ruled-rest (suc (suc (suc zero))) v h = absurd (omega arith)
-ruled-rest (suc (suc (suc (suc n)))) v h = refl
+pub latest_folded : (l : List Seen) → fold (λ (y : ℕ) (s : Seen). max y s.line) 0 l ≡ latest_of l
+latest_folded l = omega (arith, folded_latest 0 l)
 
-pub above : (n : ℕ) → (n ≡ 0 → ⊥) → (n ≡ 1 → ⊥) → (n ≡ 2 → ⊥) → (n ≡ 3 → ⊥) → 3 < n
-above n a b c d = omega arith
-
-ruled_by : (a b c d : Bool) (v : Verdict)
-    → first a RC (first b BV (first c FV (first d SV v))) ≡ ruled (cond a 0 (suc (cond b 0 (suc (cond c 0 (suc (cond d 0 1))))))) v
+ruled_by : (a b c d : Bool) (v : Verdict) → first a verdict.RC (first b verdict.BV (first c verdict.FV (first d verdict.SV v))) ≡ ruled (ranked a b c d) v
 unfolding ruled
 ruled_by true b c d v = refl
 ruled_by false true c d v = refl
@@ -110,52 +131,29 @@ ruled_by false false true d v = refl
 ruled_by false false false true v = refl
 ruled_by false false false false v = refl
 
--- the verdict by the least rank of the reads
-module _ (rows : List Row) (ss : List Seen) (line : ℕ) (r : Row) where
-  pub verdict_ruled : verdict_on rows ss line r ≡ ruled (least_of (rules rows r (latest_of ss)) ss) (first (any (overtakes line r) rows) WC Ok)
-  unfolding verdict_on first_of find
-  verdict_ruled =
-      rw (least_first (rules rows r (latest_of ss)) ss, any_same (outrun rows r (latest_of ss)) (λ (x : Seen). any (apart rows r x) ss) (every_each (λ x. outrun-any rows r x ss) ss))
-      (ruled_by (any unread ss) (any (stale rows r) ss) (any (early rows r) ss) (any (λ (x : Seen). any (apart rows r x) ss) ss) _)
+-- the verdict by the first rule that any read breaks, where y is the latest line read
+pub says : (rows : List Row) (ss : List Seen) (line : ℕ) (r : Row) (y : ℕ) (k : Rank) → y ≡ latest_of ss → k ≡ first_of rows r y ss
+    → ruled k (first (any (overtakes line r) rows) verdict.WC verdict.Ok) ≡ verdict_on rows ss line r
+unfolding verdict_on first_of
+says rows ss line r y k f e =
+    rw (e, f, any_same (outrun rows r (latest_of ss)) (λ (x : Seen). any (apart rows r x) ss) (every_each (λ x. outrun-any rows r x ss) ss))
+    (sym (ruled_by (any unread ss) (any (stale rows r) ss) (any (early rows r) ss) (any (λ (x : Seen). any (apart rows r x) ss) ss) _))
 
-  -- each answer, where y is the latest line read and n the least rank
-  module _ (y n : ℕ) (f : y ≡ latest_of ss) (e : n ≡ least_of (rules rows r y) ss) where
-    by_rank : verdict_on rows ss line r ≡ ruled n (first (any (overtakes line r) rows) WC Ok)
-    by_rank = rw (e, f) verdict_ruled
-
-    pub says : (v : Verdict) (m : ℕ) → n ≡ m → v ≡ ruled m (first (any (overtakes line r) rows) WC Ok) → v ≡ verdict_on rows ss line r
-    says v m h k = k ∙ ap (λ (j : ℕ). ruled j (first (any (overtakes line r) rows) WC Ok)) (sym h) ∙ sym by_rank
-
-    pub says_last : 3 < n → (o b : Bool) → o ≡ any (overtakes line r) rows → o ≡ b → first b WC Ok ≡ verdict_on rows ss line r
-    says_last h o b g k = ap (λ (a : Bool). first a WC Ok) (sym k ∙ g) ∙ sym (ruled-rest n _ h) ∙ sym by_rank
+pub says_last : (rows : List Row) (ss : List Seen) (line : ℕ) (r : Row) (y : ℕ) (b : Bool) → y ≡ latest_of ss → Kept ≡ first_of rows r y ss → b ≡ any (overtakes line r) rows
+    → first b verdict.WC verdict.Ok ≡ verdict_on rows ss line r
+unfolding ruled
+says_last rows ss line r y b f e g = rw g (says rows ss line r y Kept f e)
 
 -- the rank of one read: RC broken, BV or FV broken, or SV by itself
 module _ (rows : List Row) (r : Row) (y : ℕ) (s : Seen) where
-  pub rank_unread : s.line ≡ 4294967295 → 0 ≡ rank_of (rules rows r y) s
-  unfolding rank_of find
+  pub rank_unread : s.line ≡ 4294967295 → RC ≡ rank_of rows r y s
+  unfolding rank_of
   rank_unread e = rw (eq-eqb s.line 4294967295 e)
 
-  module _ (f : s.line ≡ 4294967295 → ⊥) (far : ℕ) (e : far ≡ far_of rows r s) where
-    pub rank_far : far < 4 → far ≡ rank_of (rules rows r y) s
-    unfolding rank_of find far_of
-    rank_far h = rw (ne_eqb s.line 4294967295 f) (go (stale rows r s) (early rows r s) _ e)
-      where
-        go : (a b : Bool) (z : ℕ) → far ≡ cond a 1 (cond b 2 4) → far ≡ suc (cond a 0 (suc (cond b 0 (suc z))))
-        go true b z e = e
-        go false true z e = e
-        go false false z e = absurd (omega arith)
-
-    rank_near : (n : ℕ) → 4 ≤ far → cond (outrun rows r y s) 0 1 ≡ n → suc (suc (suc n)) ≡ rank_of (rules rows r y) s
-    unfolding rank_of find far_of
-    rank_near n h k = rw (ne_eqb s.line 4294967295 f, ← k) (go (stale rows r s) (early rows r s) _ e)
-      where
-        go : (a b : Bool) (z : ℕ) → far ≡ cond a 1 (cond b 2 4) → suc (suc (suc z)) ≡ suc (cond a 0 (suc (cond b 0 (suc z))))
-        go true b z e = absurd (omega arith)
-        go false true z e = absurd (omega arith)
-        go false false z e = refl
-
-    pub rank_apart : (n : ℕ) → 4 ≤ far → n ≡ rows_between rows s.key s.line y → r.bounds.k3 < n → 3 ≡ rank_of (rules rows r y) s
-    rank_apart n h g k = rank_near 0 h (rw (← g, lt-ltb r.bounds.k3 n k))
-
-    pub rank_whole : (n : ℕ) → 4 ≤ far → n ≡ rows_between rows s.key s.line y → n ≤ r.bounds.k3 → 4 ≡ rank_of (rules rows r y) s
-    rank_whole n h g k = rank_near 1 h (rw (← g, le-ltb r.bounds.k3 n k))
+  -- BV or FV, else SV
+  pub rank_first : (s.line ≡ 4294967295 → ⊥) → (far apart : Rank) → far ≡ far_of rows r s → cond (outrun rows r y s) SV Kept ≡ apart → lesser far apart ≡ rank_of rows r y s
+  unfolding rank_of far_of
+  rank_first some far apart e f = rw (ne_eqb s.line 4294967295 some, e, ← f) (lesser_ranked false (stale rows r s) (early rows r s) false false false false (outrun rows r y s) ∙ tidy (stale rows r s) (early rows r s) (outrun rows r y s))
+    where
+      tidy : (a b c : Bool) → ranked false (a || false) (b || false) c ≡ cond a BV (cond b FV (cond c SV Kept))
+      tidy a b c = rw (or_comm a false, or_comm b false)

@@ -1,17 +1,20 @@
--- `first_broken` meets its contract: the reads walked, and those not yet walked, have the least rank.
-use native.Mathlib.Omega.{arith}
-use mathlib.Core.Path.{refl}
-use Rattle.trial.proofs.Chain.{among_le, least_start, least_over, least_more}
+-- The fold of `min` over the ranks of the reads that the walk gives is the first rule that any of them breaks.
+use Rattle.std.proofs.Common.{rules, tests, ◌∙◌}
+use Rattle.std.proofs.lemmas.Iterator.Consumers.{YieldsList-from_first, fold_from_yields_List}
+use Rattle.records.specs.Ledger.{chain}
+use Rattle.records.specs.declared.Seen.{Seen}
+use Rattle.book.specs.Book.{rows_in, seens_in}
+use Rattle.trial.specs.Trial.{rank_of}
+use Rattle.trial.specs.Walk.{reads_from}
+use Rattle.trial.specs.declared.Rank.{Rank}
+use Rattle.trial.specs.declared.Rank.TheVariants.{Kept}
+use Rattle.trial.proofs.Ranks.{lesser, first_folded}
 use Rattle.trial.proofs.first_broken.Goals as goal
 
-pub loop-at-init : goal.loop-at-init
-loop-at-init c = (omega (arith, among_le _ _ _ c.earlier-at.ensures), (omega arith, least_start _ _ _ _ _ _ _ refl c.reads.ensures c.earlier-at.ensures))
-
-pub loop-at-smaller : goal.loop-at-smaller
-loop-at-smaller c = omega (arith, among_le _ _ _ c.earlier-at-in-loop-at.ensures)
-
-pub loop-at-preserved : goal.loop-at-preserved
-loop-at-preserved c = (omega (arith, among_le _ _ _ c.earlier-at-in-loop-at.ensures), (omega arith, least_more _ _ _ _ _ c.loop-at.invariant.1.1 (omega arith) _ _ _ c.lesser-rank.ensures (c.rank_of.ensures _) c.earlier-at-in-loop-at.ensures))
-
 pub returns : goal.returns
-returns c = least_over _ _ _ _ _ c.loop-at.invariant.1.1 c.loop-at.invariant.1.0 (omega arith)
+returns c =
+    let a = c.args in
+    let rows = rows_in a.memory.now in
+    let ss = chain (seens_in a.memory.now) a.row.last in
+    fold_from_yields_List _ (λ (k : Rank) (s : Seen). lesser k (rank_of rows a.row a.y s)) Kept c.fold.result c.fold.ensures.ran (YieldsList-from_first (λ s. s) (λ s. reads_from s.memory.now s.most s.number) ss c.new.ensures) (λ k s b q h. search (rules, tests))
+    ∙ first_folded rows a.row a.y ss

@@ -1,16 +1,15 @@
--- `latest` meets its contract: the reads walked, and those not yet walked, have the latest line.
-use native.Mathlib.Omega.{arith}
-use Rattle.trial.proofs.Chain.{among_le, latest-start, latest_over, latest-more}
+-- The fold of `max` over the reads that the walk gives is the latest of their lines.
+use Rattle.std.proofs.Common.{ℕ, max, rules, tests, ◌∙◌}
+use Rattle.std.proofs.lemmas.Iterator.Consumers.{YieldsList-from_first, fold_from_yields_List}
+use Rattle.records.specs.Ledger.{chain}
+use Rattle.records.specs.declared.Seen.{Seen}
+use Rattle.book.specs.Book.{seens_in}
+use Rattle.trial.specs.Walk.{reads_from}
+use Rattle.trial.proofs.Ranks.{latest_folded}
 use Rattle.trial.proofs.latest.Goals as goal
 
-pub loop-at-init : goal.loop-at-init
-loop-at-init c = (omega (arith, among_le _ _ _ c.earlier-at.ensures), latest-start _ _ _ _ _ c.reads.ensures c.earlier-at.ensures)
-
-pub loop-at-smaller : goal.loop-at-smaller
-loop-at-smaller c = omega (arith, among_le _ _ _ c.earlier-at-in-loop-at.ensures)
-
-pub loop-at-preserved : goal.loop-at-preserved
-loop-at-preserved c = (omega (arith, among_le _ _ _ c.earlier-at-in-loop-at.ensures), latest-more _ _ _ _ c.loop-at.invariant.1 (omega arith) _ _ c.later-most.ensures c.earlier-at-in-loop-at.ensures)
-
 pub returns : goal.returns
-returns c = latest_over _ _ _ _ c.loop-at.invariant.1 (omega arith)
+returns c =
+    let ss = chain (seens_in c.args.memory.now) c.args.last in
+    fold_from_yields_List _ (λ (y : ℕ) (s : Seen). max y s.line) 0 c.fold.result c.fold.ensures.ran (YieldsList-from_first (λ s. s) (λ s. reads_from s.memory.now s.most s.number) ss c.new.ensures) (λ y s b q k. search (rules, tests))
+    ∙ latest_folded ss

@@ -1,54 +1,26 @@
--- `verdict_on` meets its contract: an answer for each rank, then WC.
-use mathlib.Core.Path.{refl}
-use Rattle.records.specs.Ledger.{chain}
-use Rattle.records.specs.declared.Verdict.TheVariants.{RC, BV, FV, SV}
-use Rattle.book.specs.Book.{rows_in, seens_in}
+-- A verdict for each rule, then WC.
 use Rattle.trial.specs.Trial.{ruled}
-use Rattle.trial.proofs.Ranks.{says, says_last, above}
+use Rattle.trial.proofs.Ranks.{says, says_last}
 use Rattle.trial.proofs.verdict_on.Goals as goal
 
-pub returns-then-rank-eq0 : goal.returns-then-rank-eq0
+pub returns-in-RC : goal.returns-in-RC
 unfolding ruled
-returns-then-rank-eq0 c =
-    let a = c.args in
-    let rows = rows_in a.memory.now in
-    let ss = chain (seens_in a.memory.now) a.row.last in
-    says rows ss a.line a.row _ _ c.latest-y.ensures c.first_broken-rank.ensures RC 0 c.if-rank-eq0.true refl
+returns-in-RC c = says _ _ _ _ _ _ c.latest-y.ensures c.in-RC.ensures
 
-pub returns-then-rank-eq1 : goal.returns-then-rank-eq1
+pub returns-in-BV : goal.returns-in-BV
 unfolding ruled
-returns-then-rank-eq1 c =
-    let a = c.args in
-    let rows = rows_in a.memory.now in
-    let ss = chain (seens_in a.memory.now) a.row.last in
-    says rows ss a.line a.row _ _ c.latest-y.ensures c.first_broken-rank.ensures BV 1 c.if-rank-eq1.true refl
+returns-in-BV c = says _ _ _ _ _ _ c.latest-y.ensures c.in-BV.ensures
 
-pub returns-then-rank-eq2 : goal.returns-then-rank-eq2
+pub returns-in-FV : goal.returns-in-FV
 unfolding ruled
-returns-then-rank-eq2 c =
-    let a = c.args in
-    let rows = rows_in a.memory.now in
-    let ss = chain (seens_in a.memory.now) a.row.last in
-    says rows ss a.line a.row _ _ c.latest-y.ensures c.first_broken-rank.ensures FV 2 c.if-rank-eq2.true refl
+returns-in-FV c = says _ _ _ _ _ _ c.latest-y.ensures c.in-FV.ensures
 
-pub returns-then-rank-eq3 : goal.returns-then-rank-eq3
+pub returns-in-SV : goal.returns-in-SV
 unfolding ruled
-returns-then-rank-eq3 c =
-    let a = c.args in
-    let rows = rows_in a.memory.now in
-    let ss = chain (seens_in a.memory.now) a.row.last in
-    says rows ss a.line a.row _ _ c.latest-y.ensures c.first_broken-rank.ensures SV 3 c.if-rank-eq3.true refl
+returns-in-SV c = says _ _ _ _ _ _ c.latest-y.ensures c.in-SV.ensures
 
-pub returns-then-overtaken : goal.returns-then-overtaken
-returns-then-overtaken c =
-    let a = c.args in
-    let rows = rows_in a.memory.now in
-    let ss = chain (seens_in a.memory.now) a.row.last in
-    says_last rows ss a.line a.row _ _ c.latest-y.ensures c.first_broken-rank.ensures (above _ c.if-rank-eq0.false c.if-rank-eq1.false c.if-rank-eq2.false c.if-rank-eq3.false) _ _ c.overtaken.ensures c.if-overtaken.true
+pub returns-in-Kept : goal.returns-in-Kept
+returns-in-Kept c = says_last _ _ _ _ _ _ c.latest-y.ensures c.in-Kept.ensures c.if-overtaken.ensures
 
-pub returns : goal.returns
-returns c =
-    let a = c.args in
-    let rows = rows_in a.memory.now in
-    let ss = chain (seens_in a.memory.now) a.row.last in
-    says_last rows ss a.line a.row _ _ c.latest-y.ensures c.first_broken-rank.ensures (above _ c.if-rank-eq0.false c.if-rank-eq1.false c.if-rank-eq2.false c.if-rank-eq3.false) _ _ c.overtaken.ensures c.if-overtaken.false
+pub returns-in-Kept-2 : goal.returns-in-Kept-2
+returns-in-Kept-2 c = says_last _ _ _ _ _ _ c.latest-y.ensures c.in-Kept.ensures c.if-overtaken.ensures
