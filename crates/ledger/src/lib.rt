@@ -16,6 +16,7 @@ use trial::verdict_on;
 use units::{Bounds, Refusal, limits};
 
 // One record at its line. On a refusal every word stays as it was.
+#[tactic(auto, using(crate::proofs::Cases::not_start, rows::proofs::Walk::newest_row), unfolding(crate::specs::Take::booked, records::specs::Ledger::line_step))]
 pub fn take(memory: &mut [u32; WORDS], line: u32, e: Record) -> Result<(), Refusal>
     ensures reply { taken_reply result ≡ reply_to (line_step line e (ledger_of memory.old)) }
     ensures memory { memory.new ≡ booked memory.old line e }
@@ -46,6 +47,7 @@ fn name_of(e: Record) -> u32
 }
 
 // A start: "a number used before" is refused, and so is the 513th.
+#[tactic(auto, using(crate::proofs::Cases::begin_used, crate::proofs::Cases::begin_full, crate::proofs::Cases::begin_goes))]
 fn begin(memory: &mut [u32; WORDS], line: u32, name: u32, number: usize) -> Result<(), Refusal>
     requires { number ≡ row_number (rows_in memory.old) name }
     ensures reply { taken_reply result ≡ reply_to (begun line name (ledger_of memory.old)) }
@@ -70,6 +72,7 @@ fn begin(memory: &mut [u32; WORDS], line: u32, name: u32, number: usize) -> Resu
 }
 
 // Any other record of an open transaction, whose row stands at a place. A start does not come here; it would change nothing of its row.
+#[tactic(auto, using(crate::proofs::Cases::shifted), unfolding(crate::specs::Take::settled, crate::specs::Take::seen_pushed, crate::specs::Take::judged_pushed, records::specs::Ledger::noted, records::specs::Ledger::concluded, records::specs::Ledger::changed))]
 fn settle(memory: &mut [u32; WORDS], line: u32, e: Record, place: usize, row: Row)
     ensures { memory.new ≡ settled memory.old line e place row }
 {
@@ -95,6 +98,7 @@ fn settle(memory: &mut [u32; WORDS], line: u32, e: Record, place: usize, row: Ro
 }
 
 // A read, which is recorded as the row's last. An own read after the own write is no record.
+#[tactic(auto, unfolding(crate::specs::Take::seen_pushed, records::specs::Ledger::noted, records::specs::Ledger::changed))]
 fn note(memory: &mut [u32; WORDS], key: u8, w: u32, row: Row) -> Row
     ensures row { result ≡ changed 0 (read_count memory.old) (Record.Read 0 key w) row }
     ensures memory { memory.new ≡ seen_pushed memory.old (noted (rows_in memory.old) (Record.Read 0 key w) row []) }

@@ -52,6 +52,7 @@ pub fn write_refused(room: &mut [u8], number: u8, line: u32) -> Result<usize, Re
 }
 
 // A text at the front of the room, where it fits.
+#[tactic(auto, using(crate::proofs::Handed::handed))]
 fn hand_over(room: &mut [u8], text: &[u8]) -> Result<usize, Refusal>
     ensures reply { written_reply result ≡ written_as room.old text.now }
     ensures buffer { room.new ≡ put room.old 0 text.now }

@@ -7,14 +7,12 @@ use mathlib.Core.Bool.{true, false, false≢true}
 use mathlib.Core.List.{List}
 use borrow.Author.Tests.{lt-ltb}
 use Rattle.records.specs.Totals.{raised}
-use Rattle.records.specs.declared.Record.{Record}
 use Rattle.records.specs.declared.Totals.{Totals}
 use Rattle.history.specs.Line.{LineReply, line_reply, line_said, line_at}
 use Rattle.history.specs.declared.Line.{Line}
 use Rattle.history.specs.declared.Line.TheVariants as line
 use Rattle.history.proofs.Determined.{line_inj}
 use Rattle.reader.specs.Reader.{place_after}
-use Rattle.verdict.specs.Judge.{Report}
 use Rattle.verdict.specs.Pass.{CameReply, comes_to, after_take, words_after, is_over, record_of, ends_in, pass_end, passes_on, passes}
 
 module _ (s : List ℕ) (at n : ℕ) (t : Totals) (ws : List ℕ) where
@@ -74,19 +72,18 @@ module _ (s : List ℕ) (at n : ℕ) (t : Totals) (ws : List ℕ) (l : Line) (c 
   same_came : k ≡ after_take ws n (comes_to n (line_at s at))
   same_came = ek ∙ ap (λ (x : CameReply). after_take ws n x) same_asked
 
-  pub turn_over : is_over k ≡ true → {r : Report} → r ≡ ends_in k t (words_after ws n c) → pass_end r (words_after ws n c) ≡ passes s at n t ws
-  turn_over h e =
-      ap (λ (x : Report). pass_end x (words_after ws n c)) e
-      ∙ ap (λ (x : CameReply). pass_end (ends_in x t (words_after ws n c)) (words_after ws n c)) same_came
+  pub turn_over : is_over k ≡ true → pass_end (ends_in k t (words_after ws n c)) (words_after ws n c) ≡ passes s at n t ws
+  turn_over h =
+      ap (λ (x : CameReply). pass_end (ends_in x t (words_after ws n c)) (words_after ws n c)) same_came
       ∙ ap (λ (x : CameReply). pass_end (ends_in (after_take ws n (comes_to n (line_at s at))) t (words_after ws n x)) (words_after ws n x)) same_asked
       ∙ ends s at n t ws (sym (ap is_over same_came) ∙ h)
 
   pub turn_few : is_over k ≡ false → n ≤ 4096
   turn_few h = soon s at n t ws (sym (ap is_over same_came) ∙ h)
 
-  pub turn_on : is_over k ≡ false → {e : Record} → e ≡ record_of k → passes s (place_after l at) (n + 1) (raised e t) (words_after ws n c) ≡ passes s at n t ws
-  turn_on h {e} q =
-      ap (λ (x : Line). passes s (place_after x at) (n + 1) (raised e t) (words_after ws n c)) el
-      ∙ ap (λ (d : Record). passes s (place_after (line_at s at) at) (n + 1) (raised d t) (words_after ws n c)) (q ∙ ap record_of same_came)
+  pub turn_on : is_over k ≡ false → passes s (place_after l at) (n + 1) (raised (record_of k) t) (words_after ws n c) ≡ passes s at n t ws
+  turn_on h =
+      ap (λ (x : Line). passes s (place_after x at) (n + 1) (raised (record_of k) t) (words_after ws n c)) el
+      ∙ ap (λ (x : CameReply). passes s (place_after (line_at s at) at) (n + 1) (raised (record_of x) t) (words_after ws n c)) same_came
       ∙ ap (λ (x : CameReply). passes s (place_after (line_at s at) at) (n + 1) (raised (record_of (after_take ws n (comes_to n (line_at s at)))) t) (words_after ws n x)) same_asked
       ∙ goes s at n t ws (sym (ap is_over same_came) ∙ h)

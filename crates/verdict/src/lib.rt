@@ -60,14 +60,12 @@ fn run(text: &[u8], memory: &mut [u32; WORDS]) -> Result<Totals, RefusedAt>
     let mut reader = Reader { text, at: 0 };
     let mut totals = NO_TOTALS;
     let mut line = 1;
-    loop {
-        let Some(e) = comes_to(line, next(&mut reader))? else {
-            return Ok(totals);
-        };
+    while let Some(e) = comes_to(line, next(&mut reader))? {
         take(memory, line, e).map_err(|refusal| RefusedAt { refusal, line })?;
         raise(&mut totals, e);
         line += 1;
     }
+    Ok(totals)
 }
 
 // What a line comes to: a record, or None at the history's end. 14 before 13.

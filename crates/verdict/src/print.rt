@@ -7,6 +7,7 @@ use crate::RefusedAt;
 use report::write_refused;
 
 // How many bytes at the front of the room are to be printed: none where a refusal's line does not go in.
+#[tactic(auto, using(crate::proofs::Shown::printed_bytes))]
 pub fn show(room: &mut [u8], answer: Result<usize, RefusedAt>) -> usize
     ensures reply { result ≡ shown_bytes (reply_of answer) room.old }
     ensures buffer { room.new ≡ shown_room (reply_of answer) room.old }
