@@ -1,5 +1,5 @@
 // A text in the making, in a buffer of its own: its lines are put one behind the other.
-ghost use Rattle.std.specs.Prelude.{ℕ, ◌+◌, ◌≤◌, ◌≡◌, List, [], ◌++◌, length, take};
+ghost use Rattle.std.specs.Prelude.{ℕ, ◌+◌, ◌≤◌, ◌≡◌, List, [], ◌∷◌, ◌++◌, length, take};
 ghost use Rattle.decimal.specs.Text.{decimal};
 ghost use Rattle.records.specs.Order.{verdict_from};
 ghost use Rattle.report.specs.Report.{verdict_word, head_line, verdict_line, total_line, refused_text};
@@ -56,14 +56,24 @@ impl<const N: usize> Text<N> {
         self.end = put_natural(&mut self.buffer, self.end, n).unwrap();
     }
 
+    // A number behind a space.
+    fn field(&mut self, n: u64)
+        requires { length self.old + 21 ≤ N }
+        ensures text { self.new ≡ self.old ++ 32 ∷ decimal n }
+        ensures digits { length (decimal n) ≤ 20 }
+    {
+        self.word(b" ");
+        self.number(n);
+    }
+
     #[tactic(auto, unfolding(crate::specs::Report::head_line, crate::specs::Report::spaced_line))]
     pub(crate) fn head(&mut self, n: usize)
         requires { length self.old + 27 ≤ N }
         ensures text { self.new ≡ self.old ++ head_line n }
         ensures length { length self.new ≤ length self.old + 27 }
     {
-        self.word(b"judge ");
-        self.number(n as u64);
+        self.word(b"judge");
+        self.field(n as u64);
         self.word(b"\n");
     }
 
@@ -84,14 +94,11 @@ impl<const N: usize> Text<N> {
         requires { length self.old + 90 ≤ N }
         ensures { self.new ≡ self.old ++ total_line totals }
     {
-        self.word(b"total ");
-        self.number(u64::from(totals.started));
-        self.word(b" ");
-        self.number(u64::from(totals.committed));
-        self.word(b" ");
-        self.number(u64::from(totals.aborted));
-        self.word(b" ");
-        self.number(u64::from(totals.open));
+        self.word(b"total");
+        self.field(u64::from(totals.started));
+        self.field(u64::from(totals.committed));
+        self.field(u64::from(totals.aborted));
+        self.field(u64::from(totals.open));
         self.word(b"\n");
     }
 
@@ -100,10 +107,9 @@ impl<const N: usize> Text<N> {
         requires { length self.old + 50 ≤ N }
         ensures { self.new ≡ self.old ++ refused_text number line }
     {
-        self.word(b"refused ");
-        self.number(u64::from(number));
-        self.word(b" ");
-        self.number(u64::from(line));
+        self.word(b"refused");
+        self.field(u64::from(number));
+        self.field(u64::from(line));
         self.word(b"\n");
     }
 }
