@@ -16,7 +16,8 @@ pub fn length_of(memory: &[u32; WORDS]) -> usize
     (memory[LENGTH] as usize).min(limits::LOG)
 }
 
-// How many versions of the log a test of key and stamp holds of. A test by `&`, without branches, counts four versions at a time.
+// How many versions of the log a test of key and stamp holds of. Tests are put together by `&`, with no branch between them, so that the walk
+// stays a plain count.
 fn count_where<F: Fn(u32, u32) -> bool>(memory: &[u32; WORDS], test: F) -> u32
     requires { F.IsAlwaysCallable test }
     ensures { (p : ℕ → ℕ → Bool) → Says (λ k s r. F.post test k s r) p → result ≡ counted p (log_of memory.now) }

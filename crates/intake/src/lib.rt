@@ -9,7 +9,8 @@ use std::io;
 use std::io::{ErrorKind, Read};
 
 // Reads until the room is full or the input ends, and answers how many bytes now stand at the room's front. A read that a signal interrupts is
-// made again.
+// made again. A proved loop has to end, and nothing says that interruptions do: it counts them from a number that no run uses up, and behind it
+// is an error, since what was read would not be the whole.
 pub fn read_full<R: Read>(input: &mut R, room: &mut [u8]) -> io::Result<usize>
     ensures within { IfOk result (λ n. n ≤ length room.new) }
     ensures bytes { IfOk result (λ n. Consumes (R.remaining input.old) (R.remaining input.new) (take n room.new)) }

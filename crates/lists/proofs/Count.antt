@@ -10,11 +10,6 @@ use borrow.Author.Tests.{lt-ltb}
 use Rattle.lists.specs.Lists.{count, bit, any, Every, none, also}
 use Rattle.lists.specs.Members.{In, here, below}
 
-pub bit_le : (b : Bool) (h : ℕ) → h ≡ bit b → h ≤ 1
-unfolding bit
-bit_le true h e = omega arith
-bit_le false h e = omega arith
-
 module _ {A : Type 0} where
   pub count_same : (p q : A → Bool) {l : List A} → Every (λ (x : A). p x ≡ q x) l → count p l ≡ count q l
   unfolding count
@@ -73,9 +68,6 @@ module _ {A : Type 0} where
       go : (b : Bool) → cond b (suc (count p xs)) (count p xs) ≡ bit b + count p xs
       go true = omega arith
       go false = omega arith
-
-  pub count-more : (p : A → Bool) (x : A) (xs : List A) (n h : ℕ) → n ≡ count p xs → h ≡ bit (p x) → n + h ≡ count p (x ∷ xs)
-  count-more p x xs n h e f = omega (arith, count-step p x xs)
 
   -- what p counts is what q and r count together
   pub count_both : (p q r : A → Bool) {l : List A} → Every (λ (x : A). bit (p x) ≡ bit (q x) + bit (r x)) l → count p l ≡ count q l + count r l

@@ -1,10 +1,8 @@
 -- The length of a list, from that of its image; and the first places of an array.
-use Prim.Native.Nat.{ℕ, ◌<◌, min}
-use native.Mathlib.Omega.{arith}
+use Prim.Native.Nat.{ℕ, min}
 use mathlib.Core.Path.{◌≡◌, sym, ◌∙◌, ap}
 use mathlib.Core.List.{List, map}
-use lib.ListN.{length, get_or, take, length-map, length-take}
-use lib.Seq.{get_or-take}
+use lib.ListN.{length, take, length-map, length-take}
 
 -- an array of structs is known to the prover by the image of its elements
 pub length_mapped : {A B : Type 0} (f : A → B) (l : List A) (n : ℕ) → length (map f l) ≡ n → length l ≡ n
@@ -14,6 +12,3 @@ length_mapped f l n p = sym (length-map l f) ∙ p
 module _ {A : Type 0} (n : ℕ) (l : List A) (m : ℕ) (size : length l ≡ m) where
   pub front-size : length (take n l) ≡ min n m
   front-size = length-take n l ∙ ap (λ (k : ℕ). min n k) size
-
-  pub front_at : (i : ℕ) (d : A) → i < length (take n l) → get_or (take n l) i d ≡ get_or l i d
-  front_at i d h = get_or-take n l i d (omega (arith, front-size))

@@ -1,4 +1,4 @@
--- The searches and counts of these papers are the library's: what an iterator chain answers, in the words of `Lists`.
+-- The searches of these papers are the library's: what an iterator chain answers, in the words of `Lists`.
 use Prim.Native.Nat.{suc, ◌+◌, ◌≤◌}
 use native.Mathlib.Omega.{arith}
 use mathlib.Core.Path.{◌≡◌, refl, sym, ap}
@@ -8,9 +8,9 @@ use lib.Dec.{ltb}
 use borrow.Author.Tests.{ltb-false}
 use lib.ListN.{length}
 use Rattle.std.specs.Prelude.{Some, None, unwrap_or}
-use Rattle.std.specs.List.{position, position_or_len, count_by}
-use Rattle.std.proofs.lemmas.List.Recursion.{is_position_or_len, is_count_by}
-use Rattle.lists.specs.Lists.{find, count}
+use Rattle.std.specs.List.{position, position_or_len}
+use Rattle.std.proofs.lemmas.List.Recursion.{is_position_or_len}
+use Rattle.lists.specs.Lists.{find}
 use Rattle.lists.proofs.Find.{find_le}
 
 module _ {A : Type 0} (p : A → Bool) where
@@ -32,14 +32,3 @@ module _ {A : Type 0} (p : A → Bool) where
       go : (b : Bool) → ltb (position_or_len p l) (length l) ≡ b → unwrap_or (cond b (Some (position_or_len p l)) None) (length l) ≡ find p l
       go true e = sym (find-position l)
       go false e = let h : length l ≤ position_or_len p l = ltb-false _ _ e in let k : find p l ≤ length l = find_le p l in let f : find p l ≡ position_or_len p l = find-position l in omega arith
-
-  -- what `filter(..).count()` answers
-  pub count-by : (l : List A) → count p l ≡ count_by p l
-  unfolding count
-  count-by = is_count_by (count p) p none step
-    where
-      none : count p [] ≡ 0
-      none = refl
-
-      step : (x : A) (xs : List A) → count p (x ∷ xs) ≡ cond (p x) (1 + count p xs) (count p xs)
-      step x xs = let e : suc (count p xs) ≡ 1 + count p xs = omega arith in ap (λ n. cond (p x) n (count p xs)) e

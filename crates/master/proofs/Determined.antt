@@ -58,6 +58,21 @@ made_back : (es : List Entry) (a : Result Batch Refusal) → IfOk a (λ b. b ≡
 made_back es (Ok b) h = ap Ok (sym h)
 made_back es (Err f) h = ap Err (number_back f)
 
+-- what the reply alone fixes: that there is a batch, or the refusal
+abbrev made_so : Result Batch Refusal → Result (Unit {0}) Refusal
+made_so (Ok b) = Ok tt
+made_so (Err f) = Err f
+
+abbrev so_from : Told → Result (Unit {0}) Refusal
+so_from t = cond (eqb t.kind 0) (Err (refusal_of t.number)) (Ok tt)
+
+so_back : (es : List Entry) (a : Result Batch Refusal) → so_from (told (made_reply a es)) ≡ made_so a
+so_back es (Ok b) = refl
+so_back es (Err f) = ap Err (number_back f)
+
+pub made_same : (es : List Entry) (a b : Result Batch Refusal) → made_reply a es ≡ made_reply b es → made_so a ≡ made_so b
+made_same es a b e = sym (so_back es a) ∙ ap (λ (r : Reply). so_from (told r)) e ∙ so_back es b
+
 pub made_inj : (es : List Entry) (a b : Result Batch Refusal) → made_reply a es ≡ made_reply b es → IfOk a (λ x. x ≡ batch_of es) → IfOk b (λ x. x ≡ batch_of es) → a ≡ b
 made_inj es a b e h k = sym (made_back es a h) ∙ ap (λ (r : Reply). made_from es (told r)) e ∙ made_back es b k
 

@@ -53,7 +53,7 @@ pub struct Judged {
     pub verdict: Verdict,
 }
 
-#[derive(Clone, Copy, PartialEq, Eq)]
+#[derive(Clone, Copy, PartialEq, Eq, Default)]
 pub struct Totals {
     pub started: u32,
     pub committed: u32,

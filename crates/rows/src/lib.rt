@@ -15,7 +15,7 @@ use records::{NOWHERE, Row};
 pub fn find(memory: &[u32; WORDS], name: u32) -> usize
     ensures { result ≡ row_number (rows_in memory.now) name }
 {
-    // A `for` over the numbers backwards took 8 per cent more of the judge's time, on 2,500 reads over 511 versions.
+    // By `while`, since a `for` over the numbers backwards takes the judge longer.
     let mut i = book::rows(memory);
     while 0 < i {
         if memory[NAMES + (i - 1)] == name {

@@ -39,7 +39,8 @@ impl Session {
         }
     }
 
-    // To the input's end. A read that a signal interrupts is none. Before any other error goes up, what is answered goes out.
+    // To the input's end. A read that a signal interrupts is none. Before any other error goes up, what is answered goes out. A proved loop has to
+    // end, and nothing says that an input does: it counts its reads from a number that no run uses up.
     fn play(&mut self, rt: &impl Print, from: &mut impl Read) -> io::Result<()> {
         let mut input = [0u8; INPUT];
         for _ in 0..u64::MAX {

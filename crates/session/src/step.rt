@@ -72,19 +72,21 @@ fn bound(word: Option<&[u8]>) -> Option<u16> {
     u16::try_from(number(word)?).ok()
 }
 
-// A word that is a number from its first byte to its last.
 fn number(word: Option<&[u8]>) -> Option<u32> {
     let word = word?;
-    match decimal::natural_at(word, 0, 0, u64::from(u32::MAX))? {
-        (n, end) if end == word.len() => u32::try_from(n).ok(),
-        _ => None,
-    }
+    let n = whole(word, decimal::natural_at(word, 0, 0, u64::from(u32::MAX)))?;
+    u32::try_from(n).ok()
 }
 
 fn value(word: Option<&[u8]>) -> Option<i32> {
     let word = word?;
-    match decimal::signed_at(word, 0)? {
-        (n, end) if end == word.len() => Some(n),
+    whole(word, decimal::signed_at(word, 0))
+}
+
+// What was read at the front of a word, where it is the word to its last byte.
+fn whole<T: Copy>(word: &[u8], read: Option<(T, usize)>) -> Option<T> {
+    match read? {
+        (x, end) if end == word.len() => Some(x),
         _ => None,
     }
 }

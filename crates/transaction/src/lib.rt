@@ -100,10 +100,7 @@ impl Transaction {
     pub fn read_at(self, i: usize) -> Mark
         ensures { result ≡ get_or (reads_of self) i no_mark }
     {
-        match self.reads().get(i) {
-            Some(mark) => *mark,
-            None => Mark::NONE,
-        }
+        self.reads().get(i).copied().unwrap_or(Mark::NONE)
     }
 
     // The written keys, in the order of first writing, each with its pending value.

@@ -12,7 +12,7 @@ use records::Seen;
 
 // The number of the read to come, which is none unless it is one of the first `most`.
 #[derive(Drop)]
-pub struct Reads<'a> {
+pub(crate) struct Reads<'a> {
     memory: &'a [u32; WORDS],
     number: u32,
     most: usize,
@@ -20,7 +20,7 @@ pub struct Reads<'a> {
 }
 
 impl<'a> Reads<'a> {
-    pub fn new(memory: &'a [u32; WORDS], last: u32) -> Reads<'a>
+    pub(crate) fn new(memory: &'a [u32; WORDS], last: u32) -> Reads<'a>
         ensures { reads_from result.memory.now result.most result.number ≡ chain (seens_in memory.now) last }
     {
         Reads {

@@ -29,13 +29,6 @@ pub struct RefusedAt {
 
 const LAST_LINE: u32 = limits::LINES as u32;
 
-const NO_TOTALS: Totals = Totals {
-    started: 0,
-    committed: 0,
-    aborted: 0,
-    open: 0,
-};
-
 // The length of the output, or a refusal. The length of the text is looked at first, so that 12 stands before every line's refusal.
 pub fn judge(text: &[u8], room: &mut [u8]) -> Result<usize, RefusedAt>
     ensures reply { reply_of result ≡ replied (report_of text.now) room.old }
@@ -58,7 +51,7 @@ fn run(text: &[u8], memory: &mut [u32; WORDS]) -> Result<Totals, RefusedAt>
     ensures { pass_end (ran_to result memory.new) memory.new ≡ passes text.now 0 1 no_totals memory.old }
 {
     let mut reader = Reader { text, at: 0 };
-    let mut totals = NO_TOTALS;
+    let mut totals = Totals::default();
     let mut line = 1;
     while let Some(e) = comes_to(line, next(&mut reader))? {
         take(memory, line, e).map_err(|refusal| RefusedAt { refusal, line })?;
