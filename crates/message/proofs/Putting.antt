@@ -13,48 +13,24 @@ use Rattle.decimal.specs.Write.{put, wrote}
 use Rattle.decimal.proofs.Writing.{put-room}
 use Rattle.decimal.proofs.Putting.{joined_snoc}
 use Rattle.decimal.proofs.Digits.{decimal_32}
+use Rattle.texts.specs.Text.{grown, fitted}
+use Rattle.texts.proofs.Growing.{grown_room, fitted_room}
 use Rattle.message.specs.Line.{item_text, items_text, message_text, no_item}
 use Rattle.message.specs.Write.{message_reply, bytes, refused, text_reply}
 use Rattle.message.proofs.Lengths.{item-length, item-longest}
 
--- a text put behind what stands at the front of b
-module _ (b : List ℕ) (at : ℕ) (t : List ℕ) (room : at + length t ≤ length b) where
-  pub put_next : {w : Option ℕ} → w ≡ wrote b at t → w ≡ Some (at + length t)
-  unfolding wrote
-  put_next e = e ∙ rw (le-leb (at + length t) (length b) room)
-
-  pub put_front : take (at + length t) (put b at t) ≡ take at b ++ t
-  put_front =
-      let n : at + length t ≡ length (take at b ++ t) = omega (arith, length-append (take at b) t, length-take-le at b (omega arith)) in
-      ap (take (at + length t)) (put-room b at t room)
-      ∙ ap (λ (k : ℕ). take k (take at b ++ t ++ drop (at + length t) b)) n
-      ∙ take-append_seam (take at b ++ t) (drop (at + length t) b)
-
 -- ---- a line that grows
 
 -- a tab was put behind the line `old`, and the text t is to go behind it
-module _ (old t bytes : List ℕ) (end : ℕ) {now : List ℕ} (whole : length bytes ≡ 445) (within : end ≤ 445) (view : take end bytes ≡ now) (tab : now ≡ old ++ (9 ∷ [])) (room : length old + length (9 ∷ t) ≤ 445) where
-  place : end ≡ length old + 1
-  place = omega (arith, ap length (view ∙ tab), length-take-le end bytes (omega arith), length-append old (9 ∷ []))
+module _ (old t : List ℕ) {now : List ℕ} (tab : now ≡ old ++ (9 ∷ [])) (room : length old + length (9 ∷ t) ≤ 445) where
+  fits : length now + length t ≤ 445
+  fits = omega (arith, ap length tab, length-append old (9 ∷ []))
 
-  fits : end + length t ≤ length bytes
-  fits = omega (arith, place)
+  pub field_some : {w : Option Unit} → w ≡ fitted 445 now t → IsSome w
+  field_some p = rw (p ∙ fitted_room 445 now t fits)
 
-  module _ {w : Option ℕ} (p : w ≡ wrote bytes end t) where
-    pub field_some : IsSome w
-    field_some = rw (put_next bytes end t fits p)
-
-    module _ {r : ℕ} (q : w ≡ Some r) where
-      ends : r ≡ end + length t
-      ends = let e : Some r ≡ Some (end + length t) = sym q ∙ put_next bytes end t fits p in cc
-
-      pub field_within : r ≤ 445
-      field_within = omega (arith, ends, fits)
-
-      pub field_put : {c : List ℕ} → c ≡ put bytes end t → take r c ≡ old ++ (9 ∷ t)
-      field_put e =
-          rw (ends, e)
-          (put_front bytes end t fits ∙ ap (λ (l : List ℕ). l ++ t) (view ∙ tab) ∙ append_assoc old (9 ∷ []) t)
+  pub field_put : {c : List ℕ} → c ≡ grown 445 now t → c ≡ old ++ (9 ∷ t)
+  field_put q = q ∙ grown_room 445 now t fits ∙ ap (λ (l : List ℕ). l ++ t) tab ∙ append_assoc old (9 ∷ []) t
 
 -- a version, field by field; 27 bytes are the most that it takes
 module _ (old : List ℕ) (i : Item) (room : length old + 27 ≤ 445) (k : i.key < 256) (o : i.ordinal.0 < 4294967296) (v : SFits w32 i.value) where
