@@ -1,16 +1,14 @@
 -- A line, put field by field and version by version.
-use Rattle.std.proofs.Common.{ℕ, ◌+◌, ◌*◌, ◌≤◌, ◌<◌, ◌≡◌, Option, Some, None, IsSome, Bool, true, false, cond, leb, zero-add, List, [], ◌∷◌, ◌++◌, length, get_or, take, drop, refl, sym, ap, ◌∙◌, arith, add-one, append_assoc, append-nil, length-append, length-take-le, take_all}
-use borrow.Author.Tests.{le-leb}
+use Rattle.std.proofs.Common.{ℕ, ◌+◌, ◌*◌, ◌≤◌, ◌<◌, ◌≡◌, Option, Some, None, IsSome, Bool, true, false, cond, leb, zero-add, List, [], ◌∷◌, ◌++◌, length, get_or, take, refl, sym, ap, ◌∙◌, arith, add-one, append_assoc, append-nil, length-append, take_all}
 use mir.Syntax.{w32}
 use mir.Val.{SFits}
 use lib.IntN.{pos}
-use lib.Seq.{take-suc, take-append_seam}
+use lib.Seq.{take-suc}
 use Rattle.std.specs.Option.{ok_or}
 use Rattle.units.specs.declared.Item.{Item}
 use Rattle.units.specs.declared.refusal.Refusal.TheVariants.{NoRoom}
 use Rattle.decimal.specs.Text.{field, joined}
-use Rattle.decimal.specs.Write.{put, wrote}
-use Rattle.decimal.proofs.Writing.{put-room}
+use Rattle.decimal.specs.Write.{wrote}
 use Rattle.decimal.proofs.Putting.{joined_snoc}
 use Rattle.decimal.proofs.Digits.{decimal_32}
 use Rattle.texts.specs.Text.{grown, fitted}
