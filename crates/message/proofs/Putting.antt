@@ -80,9 +80,6 @@ module _ (stamp : ℕ) (small : stamp < 4294967296) where
       record { text = f ∙ ap (λ (l : List ℕ). 112 ∷ l) (sym (append-nil (field (pos stamp)))); long = omega (arith, ap length f, decimal_32 stamp small) }
 
 module _ (stamp : ℕ) (items : List Item) {line : List ℕ} {n : ℕ} (p : LineTo stamp items line n) where
-  pub item_room : length items ≤ 16 → n < length items → length line + 27 ≤ 445
-  item_room few h = omega (arith, p.long)
-
   pub line_more : {more : List ℕ} → n < length items → more ≡ line ++ item_text (get_or items n no_item) → length more ≤ length line + 27 → LineTo stamp items more (n + 1)
   line_more h e l =
       let x : Item = get_or items n no_item in
@@ -96,9 +93,6 @@ module _ (stamp : ℕ) (items : List Item) {line : List ℕ} {n : ℕ} (p : Line
             ∙ ap (λ (a : List Item). 112 ∷ (field (pos stamp) ++ items_text a)) (sym next);
         long = omega (arith, p.long);
       }
-
-  pub newline-room : length items ≤ 16 → n ≤ length items → length line < 445
-  newline-room few h = omega (arith, p.long)
 
   pub line_all : {whole : List ℕ} → length items ≤ n → whole ≡ line ++ (10 ∷ []) → whole ≡ message_text stamp items
   unfolding message_text

@@ -48,7 +48,6 @@ fn put_item(line: &mut Text<LONGEST>, item: Item)
 }
 
 // A tab and a number that is not below zero.
-#[tactic(auto, using(texts::proofs::Growing::fitted_room, texts::proofs::Growing::grown_room))]
 fn put_field(line: &mut Text<LONGEST>, n: u64)
     requires { length line.old + length (field (pos n)) ≤ 445 }
     ensures { line.new ≡ line.old ++ field (pos n) }
@@ -58,7 +57,6 @@ fn put_field(line: &mut Text<LONGEST>, n: u64)
 }
 
 // A tab and a value.
-#[tactic(auto, using(texts::proofs::Growing::fitted_room, texts::proofs::Growing::grown_room))]
 fn put_value(line: &mut Text<LONGEST>, n: i32)
     requires { length line.old + length (field n) ≤ 445 }
     ensures { line.new ≡ line.old ++ field n }
