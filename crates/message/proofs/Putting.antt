@@ -1,60 +1,34 @@
 -- A line, put field by field and version by version.
-use Rattle.std.proofs.Common.{ℕ, ◌+◌, ◌*◌, ◌≤◌, ◌<◌, ◌≡◌, Option, Some, None, IsSome, Bool, true, false, cond, leb, zero-add, List, [], ◌∷◌, ◌++◌, length, get_or, take, drop, refl, sym, ap, ◌∙◌, arith, add-one, append_assoc, append-nil, length-append, length-take-le, take_all}
-use borrow.Author.Tests.{le-leb}
+use Rattle.std.proofs.Common.{ℕ, ◌+◌, ◌*◌, ◌≤◌, ◌<◌, ◌≡◌, Option, Some, None, IsSome, Bool, true, false, cond, leb, zero-add, List, [], ◌∷◌, ◌++◌, length, get_or, take, refl, sym, ap, ◌∙◌, arith, add-one, append_assoc, append-nil, length-append, take_all}
 use mir.Syntax.{w32}
 use mir.Val.{SFits}
 use lib.IntN.{pos}
-use lib.Seq.{take-suc, take-append_seam}
+use lib.Seq.{take-suc}
 use Rattle.std.specs.Option.{ok_or}
 use Rattle.units.specs.declared.Item.{Item}
 use Rattle.units.specs.declared.refusal.Refusal.TheVariants.{NoRoom}
 use Rattle.decimal.specs.Text.{field, joined}
-use Rattle.decimal.specs.Write.{put, wrote}
-use Rattle.decimal.proofs.Writing.{put-room}
+use Rattle.decimal.specs.Write.{wrote}
 use Rattle.decimal.proofs.Putting.{joined_snoc}
 use Rattle.decimal.proofs.Digits.{decimal_32}
+use Rattle.texts.specs.Text.{grown, fitted}
+use Rattle.texts.proofs.Growing.{grown_room, fitted_room}
 use Rattle.message.specs.Line.{item_text, items_text, message_text, no_item}
 use Rattle.message.specs.Write.{message_reply, bytes, refused, text_reply}
 use Rattle.message.proofs.Lengths.{item-length, item-longest}
 
--- a text put behind what stands at the front of b
-module _ (b : List ℕ) (at : ℕ) (t : List ℕ) (room : at + length t ≤ length b) where
-  pub put_next : {w : Option ℕ} → w ≡ wrote b at t → w ≡ Some (at + length t)
-  unfolding wrote
-  put_next e = e ∙ rw (le-leb (at + length t) (length b) room)
-
-  pub put_front : take (at + length t) (put b at t) ≡ take at b ++ t
-  put_front =
-      let n : at + length t ≡ length (take at b ++ t) = omega (arith, length-append (take at b) t, length-take-le at b (omega arith)) in
-      ap (take (at + length t)) (put-room b at t room)
-      ∙ ap (λ (k : ℕ). take k (take at b ++ t ++ drop (at + length t) b)) n
-      ∙ take-append_seam (take at b ++ t) (drop (at + length t) b)
-
 -- ---- a line that grows
 
 -- a tab was put behind the line `old`, and the text t is to go behind it
-module _ (old t bytes : List ℕ) (end : ℕ) {now : List ℕ} (whole : length bytes ≡ 445) (within : end ≤ 445) (view : take end bytes ≡ now) (tab : now ≡ old ++ (9 ∷ [])) (room : length old + length (9 ∷ t) ≤ 445) where
-  place : end ≡ length old + 1
-  place = omega (arith, ap length (view ∙ tab), length-take-le end bytes (omega arith), length-append old (9 ∷ []))
+module _ (old t : List ℕ) {now : List ℕ} (tab : now ≡ old ++ (9 ∷ [])) (room : length old + length (9 ∷ t) ≤ 445) where
+  fits : length now + length t ≤ 445
+  fits = omega (arith, ap length tab, length-append old (9 ∷ []))
 
-  fits : end + length t ≤ length bytes
-  fits = omega (arith, place)
+  pub field_some : {w : Option Unit} → w ≡ fitted 445 now t → IsSome w
+  field_some p = rw (p ∙ fitted_room 445 now t fits)
 
-  module _ {w : Option ℕ} (p : w ≡ wrote bytes end t) where
-    pub field_some : IsSome w
-    field_some = rw (put_next bytes end t fits p)
-
-    module _ {r : ℕ} (q : w ≡ Some r) where
-      ends : r ≡ end + length t
-      ends = let e : Some r ≡ Some (end + length t) = sym q ∙ put_next bytes end t fits p in cc
-
-      pub field_within : r ≤ 445
-      field_within = omega (arith, ends, fits)
-
-      pub field_put : {c : List ℕ} → c ≡ put bytes end t → take r c ≡ old ++ (9 ∷ t)
-      field_put e =
-          rw (ends, e)
-          (put_front bytes end t fits ∙ ap (λ (l : List ℕ). l ++ t) (view ∙ tab) ∙ append_assoc old (9 ∷ []) t)
+  pub field_put : {c : List ℕ} → c ≡ grown 445 now t → c ≡ old ++ (9 ∷ t)
+  field_put q = q ∙ grown_room 445 now t fits ∙ ap (λ (l : List ℕ). l ++ t) tab ∙ append_assoc old (9 ∷ []) t
 
 -- a version, field by field; 27 bytes are the most that it takes
 module _ (old : List ℕ) (i : Item) (room : length old + 27 ≤ 445) (k : i.key < 256) (o : i.ordinal.0 < 4294967296) (v : SFits w32 i.value) where
@@ -106,9 +80,6 @@ module _ (stamp : ℕ) (small : stamp < 4294967296) where
       record { text = f ∙ ap (λ (l : List ℕ). 112 ∷ l) (sym (append-nil (field (pos stamp)))); long = omega (arith, ap length f, decimal_32 stamp small) }
 
 module _ (stamp : ℕ) (items : List Item) {line : List ℕ} {n : ℕ} (p : LineTo stamp items line n) where
-  pub item_room : length items ≤ 16 → n < length items → length line + 27 ≤ 445
-  item_room few h = omega (arith, p.long)
-
   pub line_more : {more : List ℕ} → n < length items → more ≡ line ++ item_text (get_or items n no_item) → length more ≤ length line + 27 → LineTo stamp items more (n + 1)
   line_more h e l =
       let x : Item = get_or items n no_item in
@@ -122,9 +93,6 @@ module _ (stamp : ℕ) (items : List Item) {line : List ℕ} {n : ℕ} (p : Line
             ∙ ap (λ (a : List Item). 112 ∷ (field (pos stamp) ++ items_text a)) (sym next);
         long = omega (arith, p.long);
       }
-
-  pub newline-room : length items ≤ 16 → n ≤ length items → length line < 445
-  newline-room few h = omega (arith, p.long)
 
   pub line_all : {whole : List ℕ} → length items ≤ n → whole ≡ line ++ (10 ∷ []) → whole ≡ message_text stamp items
   unfolding message_text

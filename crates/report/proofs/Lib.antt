@@ -1,5 +1,4 @@
 -- The laws of the judge's output, for this crate's proofs and for those of the program.
-pub mod Putting
 pub mod Handed
 pub mod Lines
 pub mod Determined

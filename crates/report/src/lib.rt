@@ -10,11 +10,12 @@ ghost use Rattle.report.specs.Write.{written_reply, written_as};
 use book::{JUDGED_CODES, JUDGED_NAMES, WORDS};
 use decimal::put_text;
 use records::Totals;
+use texts::Text;
 use units::Refusal;
 
 mod text;
 
-use text::Text;
+use text::{head, refused, total, verdict};
 
 // Room for any report: 27 bytes for its head, 24 for each of 512 verdicts, 90 for its totals, since a number is at most 20 digits.
 const LONGEST: usize = 12405;
@@ -33,11 +34,15 @@ pub fn write_report(
 {
     let n = book::verdicts(memory);
     let mut text = Text::<LONGEST>::new();
-    text.head(n);
+    head(&mut text, n);
     for i in 0..n {
-        text.verdict(memory[JUDGED_NAMES + i], memory[JUDGED_CODES + i]);
+        verdict(
+            &mut text,
+            memory[JUDGED_NAMES + i],
+            memory[JUDGED_CODES + i],
+        );
     }
-    text.total(totals);
+    total(&mut text, totals);
     hand_over(room, text.bytes())
 }
 
@@ -47,7 +52,7 @@ pub fn write_refused(room: &mut [u8], number: u8, line: u32) -> Result<usize, Re
     ensures buffer { room.new ≡ put room.old 0 (refused_text number line) }
 {
     let mut text = Text::<LONGEST_REFUSED>::new();
-    text.refused(number, line);
+    refused(&mut text, number, line);
     hand_over(room, text.bytes())
 }
 

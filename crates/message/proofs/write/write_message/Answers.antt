@@ -8,7 +8,7 @@ use Rattle.message.proofs.write.write_message.Goals as goal
 
 pub returns : goal.returns
 returns c =
-    let line = c.text.ensures ∙ c.of-line.ensures ∙ ap (message_text c.args.stamp.0) c.items.ensures in
+    let line = c.bytes.ensures ∙ c.line_of-line.ensures ∙ ap (message_text c.args.stamp.0) c.items.ensures in
     record {
       reply = ap message_reply c.ok_or.ensures.value ∙ handed _ _ c.put_text.ensures.reply line;
       buffer = c.put_text.ensures.buffer ∙ ap (put c.args.room.now 0) line;

@@ -4,7 +4,7 @@ use mir.Facts.{to_z-of_z}
 use mir.Syntax.{w32}
 use mir.Val.{SFits}
 use Rattle.message.proofs.Putting.{key-room, ordinal-room, value_room, item-put}
-use Rattle.message.proofs.write.Line.put_item.Goals as goal
+use Rattle.message.proofs.write.put_item.Goals as goal
 
 pub put_field-requires : goal.put_field-requires
 put_field-requires c =
