@@ -68,9 +68,6 @@ pub record SoFar (stamp : ℕ) (s : List ℕ) (from : ℕ) (batch : Batch) (at n
   pub left : items_at stamp (16 - n) s at seen ≡ items_at stamp 16 s from []
 
 module _ (stamp : ℕ) (s : List ℕ) (from : ℕ) where
-  pub nothing_yet : {batch : Batch} → batch ≡ batch_of [] → SoFar stamp s from batch from 0
-  nothing_yet e = record { seen = []; many = refl; made = e; left = refl }
-
   module _ {batch : Batch} {at n : ℕ} (f : SoFar stamp s from batch at n) where
     -- sixteen versions and no end
     pub items_full : 16 ≤ n → None ≡ message_of (items_at stamp 16 s from [])
