@@ -30,8 +30,13 @@ module _ (n : ℕ) (old t : List ℕ) where
   unfolding fitted
   fitted_full h = rw (lt-leb (length old + length t) n h)
 
--- ---- what a writer of decimal answered: b has n bytes, old stands before `at`, and t was put there
+-- ---- what a writer of decimal answered
 
+-- wherever it put the text, it ended within the buffer
+pub put_within : (n : ℕ) (b : List ℕ) (at : ℕ) (t : List ℕ) {e : ℕ} → length b ≡ n → Some e ≡ wrote b at t → e ≤ n
+put_within n b at t {e = e} all p = let q : (e ≡ at + length t) × (at + length t ≤ length b) = wrote-next b at t e (sym p) in omega arith
+
+-- b has n bytes, old stands before `at`, and t was put there
 module _ (n : ℕ) (b : List ℕ) (at : ℕ) (t : List ℕ) {old : List ℕ} (all : length b ≡ n) (within : at ≤ n) (stands : take at b ≡ old) where
   length_old : length old ≡ at
   length_old = sym (ap length stands) ∙ length-take-le at b (omega arith)
@@ -40,9 +45,6 @@ module _ (n : ℕ) (b : List ℕ) (at : ℕ) (t : List ℕ) {old : List ℕ} (al
   module _ {e : ℕ} (p : Some e ≡ wrote b at t) where
     place : (e ≡ at + length t) × (at + length t ≤ length b)
     place = wrote-next b at t e (sym p)
-
-    pub put_within : e ≤ n
-    put_within = omega (arith, place)
 
     pub put_fitted : Some tt ≡ fitted n old t
     put_fitted = sym (fitted_room n old t (omega (arith, place, length_old)))

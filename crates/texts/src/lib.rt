@@ -22,7 +22,7 @@ impl<const N: usize> Model for Text<N> {
     ghost invariant = { λ t. t.end ≤ N };
 }
 
-#[tactic(auto, using(crate::proofs::Growing::put_fitted, crate::proofs::Growing::put_grown, crate::proofs::Growing::none_fitted, crate::proofs::Growing::none_grown))]
+#[tactic(auto, using(crate::proofs::Growing::put_within, crate::proofs::Growing::put_fitted, crate::proofs::Growing::put_grown, crate::proofs::Growing::none_fitted, crate::proofs::Growing::none_grown))]
 impl<const N: usize> Text<N> {
     // The empty text.
     pub fn new() -> Self
