@@ -11,23 +11,18 @@ use mathlib.Core.Logic.{◌⊎◌, inl, inr, ⊎_elim}
 use lib.Count.{ones, ones_cat, count_trailing_zeros, under}
 use lib.Pow.{pow_pos, pow-lt, pow-add, high, shr-shr}
 use Rattle.std.specs.List.{list_any, range_with_len}
-use Rattle.std.proofs.lemmas.Grind.{common_steps}
 use Rattle.comparison.specs.Comparison.{some_key, word_of, how_many, lowest}
+use Rattle.lists.proofs.Std.{any_more}
 
 -- the digit of a test
 abbrev pub digit : Bool → ℕ
 digit true = 1
 digit false = 0
 
--- the keys in turn
-any_keys : (p : ℕ → Bool) (a n : ℕ) → list_any p (range_with_len a (suc n)) ≡ (list_any p (range_with_len a n) || p (a + n))
-any_keys p a zero = grind (arith, common_steps)
-any_keys p a (suc n) = rw (any_keys p (a + 1) n) (grind (arith, common_steps))
-
 pub some-any : (p : ℕ → Bool) (n : ℕ) → list_any p (range_with_len 0 n) ≡ some_key p n
 unfolding some_key
 some-any p zero = refl
-some-any p (suc n) = rw (any_keys p 0 n, some-any p n, zero-add)
+some-any p (suc n) = rw (any_more p 0 n, some-any p n, zero-add)
 
 -- a digit more than k places up is even as seen from k
 far : (k j : ℕ) (t : Bool) → cond t (2 ^ (suc j + k)) 0 ≡ digit t * 2 ^ j * 2 * 2 ^ k

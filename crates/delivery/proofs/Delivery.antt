@@ -23,7 +23,8 @@ use Rattle.delivery.specs.Values.{Writable, Ranged}
 use Rattle.delivery.specs.Held.{NewestTaken}
 use Rattle.delivery.specs.Named.{Lacks, NamesBehind, names, newest_message, Given, Coming, asked, other, OneForEach, NoCommit}
 use Rattle.delivery.proofs.Values.{ranged_reached}
-use Rattle.delivery.proofs.Messages.{reached-append, sent_stays, message_carries}
+use Rattle.model.proofs.Untuned.{reached-append}
+use Rattle.delivery.proofs.Messages.{sent_stays, message_carries}
 use Rattle.delivery.proofs.Named.{compared_equal}
 use Rattle.delivery.proofs.Quiet.{quiet_log}
 use Rattle.delivery.proofs.Equal.{newest-message, newest-given, log-holds, log-names, log_equal}

@@ -6,7 +6,7 @@ use native.Mathlib.Nat.{mod-eq_of_lt}
 use native.Mathlib.Omega.{arith}
 use mathlib.Core.Path.{◌≡◌, refl, sym, ◌∙◌, ap, subst}
 use mathlib.Core.Logic.{◌≢◌, ◌↔◌}
-use mathlib.Core.List.{List, [], ◌∷◌, ◌++◌, map}
+use mathlib.Core.List.{List, [], ◌∷◌, map}
 use lib.ListN.{length, take, length-map}
 use lib.Seq.{take_all}
 use Rattle.lists.specs.Lists.{Every, none, also}
@@ -37,13 +37,9 @@ use Rattle.copy.specs.declared.Copy.{Copy}
 use Rattle.delivery.specs.Sent.{plain_item, message_at, MessageOf, Sent, Answered, Carries}
 use Rattle.delivery.specs.Values.{Ranged}
 use Rattle.delivery.specs.Held.{arrival_of, Committed}
+use Rattle.model.proofs.Untuned.{reached-append}
 
 -- ---- to the end of the session
-
-pub reached-append : (s : State) (before after : List Call) → reached s (before ++ after) ≡ reached (reached s before) after
-unfolding reached
-reached-append s [] after = refl
-reached-append s (c ∷ before) after = reached-append (step s c).state before after
 
 -- the message of a stamp is what was made at it
 message-same : (a b : List Entry) (t : ℕ) → made_at a t ≡ made_at b t → message_at a t ≡ message_at b t

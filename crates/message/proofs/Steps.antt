@@ -22,7 +22,6 @@ use Rattle.decimal.proofs.Tabs.{signed_tabbed}
 use Rattle.message.specs.Line.{no_item, batch_of}
 use Rattle.std.specs.Prelude.{Option, Some, None}
 use Rattle.std.specs.Bool.{then_some}
-use Rattle.std.specs.List.{list_any}
 use Rattle.message.specs.Line.{items_of}
 use Rattle.message.specs.Read.{Reading, whole, bad, is_of_key, distinct, on_piece, item_at, ends_at, if_distinct, items_at, read_line, message_of}
 use Rattle.message.specs.declared.read.Message.{Message}
@@ -34,12 +33,6 @@ pub value-fits : (s : List ℕ) (at : ℕ) {n : Option (ℤ × ℕ)} {v : ℤ} {
 value-fits s at {v = v} {e = e} p q = record { sfits = value_small v ((signed_tabbed s at v e).0 (sym p ∙ q)).reads.within }
 
 -- ---- "no key twice"
-
-module _ {A : Type 0} (p : A → Bool) where
-  pub any-list_any : (l : List A) → any p l ≡ list_any p l
-  unfolding any
-  any-list_any [] = refl
-  any-list_any (x ∷ l) = rw (any-list_any l)
 
 module _ (l : List Item) (i : ℕ) where
   pub distinct_over : length l ≤ i → distinct (drop i l) ≡ true

@@ -141,7 +141,7 @@ just_started s g n e i o =
     let same : i ≡ t.place = (good_step s g Start).names i t.place o.live (rw t.taken refl) (o.name ∙ rw t.taken refl) in
     rw (same, t.taken) refl
 
-reached-append : (s : State) (cs ds : List Call) → reached s (cs ++ ds) ≡ reached (reached s cs) ds
+pub reached-append : (s : State) (cs ds : List Call) → reached s (cs ++ ds) ≡ reached (reached s cs) ds
 unfolding reached
 reached-append s [] ds = refl
 reached-append s (c ∷ cs) ds = reached-append (step s c).state cs ds

@@ -7,8 +7,8 @@ use mathlib.Core.List.{List, [], ◌∷◌}
 use lib.Dec.{ltb}
 use lib.ListN.{length, get_or}
 use borrow.Author.Tests.{lt-ltb, eq-eqb, ne_eqb}
-use Rattle.std.proofs.Math.Bool.{or_comm, or_assoc}
-use Rattle.std.proofs.Math.Nat.{zero-add, add-zero}
+use Rattle.std.proofs.Math.Bool.{or_comm}
+use Rattle.std.proofs.Math.Nat.{zero-add}
 use Rattle.std.specs.List.{list_any, range_with_len}
 use Rattle.lists.specs.Lists.{any}
 use Rattle.records.specs.Ledger.{row_of, named}
@@ -17,6 +17,7 @@ use Rattle.book.specs.Layout.{names_from}
 use Rattle.book.specs.Book.{row_at, rows_of, rows_in, row_count, row_loaded}
 use Rattle.book.proofs.Laws.{rows-length}
 use Rattle.rows.specs.Table.{row_number}
+use Rattle.lists.proofs.Std.{any_more}
 
 pub place_le : (l : List Row) (x : ℕ) → row_number l x ≤ length l
 unfolding row_number
@@ -36,11 +37,6 @@ any-named (r ∷ rs) x = go (named x r) (any-named rs x)
     go : (b : Bool) → any (named x) rs ≡ ltb 0 (row_number rs x) → (b || any (named x) rs) ≡ ltb 0 (cond b (suc (length rs)) (row_number rs x))
     go true h = sym (lt-ltb 0 (suc (length rs)) (omega arith))
     go false h = h
-
--- whether a test holds of one of the first numbers, and of one more
-any_more : (q : ℕ → Bool) (a n : ℕ) → list_any q (range_with_len a (suc n)) ≡ (list_any q (range_with_len a n) || q (a + n))
-any_more q a zero = rw (add-zero a) (or_comm (q a) false)
-any_more q a (suc n) = let e : a + 1 + n ≡ a + suc n = omega arith in rw (any_more q (a + 1) n, e) (sym (or_assoc (q a) (list_any q (range_with_len (a + 1) n)) (q (a + suc n))))
 
 module _ (ws : List ℕ) where
   rows_back : (i : ℕ) → 0 < i → rows_of ws i ≡ row_at ws (i - 1) ∷ rows_of ws (i - 1)

@@ -4,7 +4,7 @@ use Rattle.std.proofs.lemmas.Iterator.{YieldsList-from_slice}
 use Rattle.std.proofs.lemmas.Iterator.Search.{any_from_yields_List}
 use borrow.Author.Tests.{tests}
 use Rattle.message.specs.Read.{is_of_key}
-use Rattle.message.proofs.Steps.{any-list_any}
+use Rattle.lists.proofs.Std.{any-list_any}
 use Rattle.message.proofs.read.has_key.Goals as goal
 
 pub returns : goal.returns
