@@ -1,7 +1,8 @@
 -- A line says a stamp and versions exactly if it is their text and they are of document 01's form.
-use Prim.Native.Nat.{ℕ, zero, suc, ◌+◌, ◌≤◌}
+use Prim.Native.Nat.{ℕ, zero, suc, ◌+◌, ◌≤◌, ◌<◌}
+use native.Mathlib.Decide.{dec_lt}
 use native.Mathlib.Omega.{arith}
-use mathlib.Core.Path.{◌≡◌, refl, sym, ap, ◌∙◌}
+use mathlib.Core.Path.{◌≡◌, refl, sym, ap, ◌∙◌, subst}
 use mathlib.Core.Logic.{◌↔◌, ◌≢◌}
 use mathlib.Core.Bool.{Bool, true, false, cond, not, ◌&&◌, true≢false}
 use mathlib.Core.List.{List, [], ◌∷◌, ◌++◌, map, append_assoc, append-nil}
@@ -11,21 +12,24 @@ use lib.IntN.{pos}
 use lib.ListN.{length, get_or, drop, take, length-drop, drop_of_length-le}
 use Rattle.units.proofs.Batches.{batch_items}
 use Rattle.units.specs.declared.Item.{Item}
+use Rattle.units.specs.declared.refusal.Refusal.{Refusal}
 use Rattle.lists.specs.Lists.{any, Every, none, also}
 use Rattle.lists.specs.Members.{Distinct, empty, apart}
 use Rattle.lists.proofs.Every.{every_map, any_none, none_any}
 use Rattle.lists.proofs.Images.{every_image, image_every}
 use Rattle.decimal.specs.Text.{field, joined}
 use Rattle.decimal.specs.Read.{naturals, natural_behind_tab, on_number, Tabbed}
-use Rattle.decimal.specs.Write.{Puts}
+use Rattle.decimal.specs.Write.{put, Puts}
 use Rattle.decimal.proofs.Reading.{after, head_of}
 use Rattle.decimal.proofs.Tabs.{byte_stands, natural_tabbed, tabbed_stands, tabbed_at, Took, number_took}
-use Rattle.decimal.proofs.Putting.{puts_front}
+use Rattle.decimal.proofs.Putting.{puts_one, puts_front}
 use Rattle.message.specs.Line.{item_text, items_text, message_text, InRanges, IsMessage}
 use Rattle.message.specs.Read.{Reading, whole, bad, is_of_key, distinct, on_piece, item_at, ends_at, if_distinct, items_at, read_line, message_of, says, read_message_reply, reading_reply}
 use Rattle.message.specs.declared.read.Message.{Message}
-use Rattle.std.specs.Prelude.{Option, Some}
+use Rattle.message.specs.Write.{bytes, refused, message_reply, text_reply}
+use Rattle.std.specs.Prelude.{Option, Some, Result, Ok}
 use Rattle.message.proofs.Items.{ItemAt, item-reads, item_back, piece_took, stops_items}
+use Rattle.message.proofs.Room.{text-fits, text-full}
 
 no_reading : {A : Type 0} (stamp : ℕ) (items : List Item) → bad ≡ whole stamp items → A
 no_reading stamp items q = let z : ◌≡◌ {A = ℕ} 0 1 = cc in absurd (omega arith)
@@ -249,3 +253,22 @@ message-answered s e = (ap read_message_reply e ∙ message-reply s, e)
 -- a message of the form that was put at the front of a room is read back from there
 pub written_back : {b c : List ℕ} {r : ℕ} (stamp : ℕ) (items : List Item) → IsMessage stamp items → Puts b c 0 (message_text stamp items) r → read_line (take r c) ≡ whole stamp items
 written_back stamp items f p = ap read_line (puts_front p) ∙ line_back stamp items f
+
+-- what `write_message` promises of its reply and of its room, where it answers a length: the text was put at the front, and it ends there
+module _ (stamp : ℕ) (items : List Item) (room : List ℕ) {after : List ℕ} {r : Result ℕ Refusal} (reply : message_reply r ≡ text_reply room (message_text stamp items)) (buffer : after ≡ put room 0 (message_text stamp items)) {n : ℕ} (ok : r ≡ Ok n) where
+  pub written_puts : Puts room after 0 (message_text stamp items) n
+  written_puts = go (dec_lt (length room) (length (message_text stamp items)))
+    where
+      answer : bytes n ≡ text_reply room (message_text stamp items)
+      answer = sym (ap message_reply ok) ∙ reply
+
+      go : Dec (length room < length (message_text stamp items)) → Puts room after 0 (message_text stamp items) n
+      go (yes h) = let f : bytes n ≡ refused 17 = answer ∙ text-full room (message_text stamp items) h in let z : ◌≡◌ {A = ℕ} 0 1 = cc in absurd (omega arith)
+      go (no h) =
+          let f : bytes n ≡ bytes (length (message_text stamp items)) = answer ∙ text-fits room (message_text stamp items) (omega arith) in
+          let e : n ≡ length (message_text stamp items) = cc in
+          subst (λ (k : ℕ). Puts room after 0 (message_text stamp items) k) (omega (arith, e)) (puts_one (omega arith) buffer)
+
+  -- a message of the form that it wrote is read back from its room
+  pub message_read_back : IsMessage stamp items → read_line (take n after) ≡ whole stamp items
+  message_read_back f = written_back stamp items f written_puts
