@@ -1,15 +1,16 @@
 -- What the counts of document 01 are in terms of those that the code walks for.
-use Prim.Native.Nat.{ℕ, suc, ◌+◌, ◌≤◌}
+use Prim.Native.Nat.{ℕ, suc, ◌+◌, ◌-◌, ◌<◌, ◌≤◌}
 use native.Mathlib.Omega.{arith}
 use native.Mathlib.Numerals.{add-one}
-use mathlib.Core.Path.{◌≡◌, refl, sym, ◌∙◌}
+use mathlib.Core.Path.{◌≡◌, refl, sym, ◌∙◌, ap, fun_ext}
 use mathlib.Core.Bool.{Bool, true, false, cond, ◌&&◌, ◌||◌, and-false}
 use mathlib.Core.List.{List, [], ◌∷◌}
-use lib.Dec.{leb, ltb, leb-suc-suc}
+use lib.Dec.{eqb, leb, ltb, leb-suc-suc}
 use borrow.Author.Tests.{ltb-true, leb-true, leb-false, lt-ltb, le-ltb}
 use Rattle.lists.specs.Lists.{count, any}
 use Rattle.lists.proofs.Every.{every_each}
 use Rattle.lists.proofs.Count.{count_none}
+use Rattle.lists.proofs.Tests.{leb-before}
 use Rattle.model.specs.Log.{Entry, of_key, up_to, between, changed_after, versions}
 use Rattle.memory.specs.Memory.{entry_at, entries}
 use Rattle.counts.specs.Where.{counted}
@@ -24,7 +25,13 @@ module _ (p : ℕ → ℕ → Bool) (ws : List ℕ) (i n : ℕ) (before : n ≡ 
   unfolding counted entries count
   counted-miss h = rw (add-one i, h) before
 
--- of two stamps not in order: nothing lies between
+-- "strictly after .. and strictly before", of two stamps in order
+pub strictly : (log : List Entry) (x after before : ℕ) → after < before
+    → counted (λ (k t : ℕ). eqb k x && (leb (after + 1) t && leb t (before - 1))) log ≡ between log x after before
+unfolding counted between
+strictly log x after before h = ap (λ (p : Entry → Bool). count p log) (fun_ext (λ (e : Entry). rw (add-one after, leb-before e.stamp before (omega arith))))
+
+-- and of two that are not: nothing lies between
 pub nothing-between : (log : List Entry) (x after before : ℕ) → before ≤ after → 0 ≡ between log x after before
 unfolding between
 nothing-between log x after before h = sym (count_none _ (every_each (λ e. go (of_key x e) e.stamp (ltb after e.stamp) refl) log))

@@ -100,7 +100,7 @@ module _ (most v : ℕ) (s : List ℕ) (i : ℕ) where
           rw (drop-cons s i 0 h, g.0, ← g.1, n.0) (n.1 ∙ ap (λ (k : ℕ). more most (v * 10 + d) (i + 1) (drop k s)) (sym (add-one i)))
 
 module _ (most : ℕ) (s : List ℕ) (at : ℕ) where
-  digits-end : length s ≤ at → None ≡ digits most at (drop at s)
+  pub digits-end : length s ≤ at → None ≡ digits most at (drop at s)
   unfolding digits
   digits-end h = rw (drop_of_length-le s h)
 

@@ -10,6 +10,11 @@ use borrow.Author.Tests.{lt-ltb}
 use Rattle.lists.specs.Lists.{count, bit, any, Every, none, also}
 use Rattle.lists.specs.Members.{In, here, below}
 
+pub bit_le : (b : Bool) (h : ℕ) → h ≡ bit b → h ≤ 1
+unfolding bit
+bit_le true h e = omega arith
+bit_le false h e = omega arith
+
 module _ {A : Type 0} where
   pub count_same : (p q : A → Bool) {l : List A} → Every (λ (x : A). p x ≡ q x) l → count p l ≡ count q l
   unfolding count

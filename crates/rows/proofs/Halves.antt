@@ -5,7 +5,7 @@ use native.Mathlib.Numerals.{add-one}
 use Rattle.std.specs.Int.{from_bool}
 use mathlib.Core.Path.{◌≡◌, refl, sym, ◌∙◌, ap}
 use mathlib.Core.Bool.{Bool, true, false, cond, ◌&&◌}
-use mathlib.Core.List.{List}
+use mathlib.Core.List.{List, [], ◌∷◌}
 use lib.Dec.{eqb, leb, ltb}
 use lib.ListN.{get_or}
 use lib.Pow.{field, mod-mod-pow, shr-shr}
@@ -53,8 +53,8 @@ half_le half x e = rw e (go (ltb x 32))
     go false = omega arith
 
 -- no line is after one and at or before another that is not later
-never : (a : Bool) (e after until : ℕ) → until ≤ after → (a && (ltb after e && leb e until)) ≡ false
-never a e after until h = go a (ltb after e) refl (leb e until) refl
+no_line : (a : Bool) (e after until : ℕ) → until ≤ after → (a && (ltb after e && leb e until)) ≡ false
+no_line a e after until h = go a (ltb after e) refl (leb e until) refl
   where
     go : (a b : Bool) → ltb after e ≡ b → (c : Bool) → leb e until ≡ c → (a && (b && c)) ≡ false
     go true true p true q = absurd (omega (arith, ltb-true after e p, leb-true e until q))
@@ -95,7 +95,7 @@ module _ (ws : List ℕ) (x : ℕ) where
   pub within_none : (i n after until : ℕ) → until ≤ after → (n ≤ i) × (n ≡ count (made_within x after until) (rows_of ws i))
       → (n ≤ i + 1) × (n ≡ count (made_within x after until) (rows_of ws (i + 1)))
   unfolding rows_of count
-  within_none i n after until h f = (omega (arith, f.0), rw (add-one i, never (has (row_at ws i).keys x) (row_at ws i).end after until h) f.1)
+  within_none i n after until h f = (omega (arith, f.0), rw (add-one i, no_line (has (row_at ws i).keys x) (row_at ws i).end after until h) f.1)
 
   -- no row has a key past 63
   pub none_has : (p : Row → Bool) → 64 ≤ x → (n : ℕ) → 0 ≡ count (λ (r : Row). has r.keys x && p r) (rows_of ws n)
@@ -110,6 +110,21 @@ module _ (ws : List ℕ) (x : ℕ) where
   pub between_past : (after before : ℕ) → 64 ≤ x → 0 ≡ rows_between (rows_in ws) x after before
   unfolding rows_between
   between_past after before h = none_has (λ (r : Row). ltb after r.end && ltb r.end before) h (row_count ws)
+
+-- no line is after one and before another that is not later
+pub never : (a : Bool) (e from before : ℕ) → before ≤ from → (a && (ltb from e && ltb e before)) ≡ false
+never a e from before h = go a (ltb from e) refl (ltb e before) refl
+  where
+    go : (a b : Bool) → ltb from e ≡ b → (c : Bool) → ltb e before ≡ c → (a && (b && c)) ≡ false
+    go true true p true q = absurd (omega (arith, ltb-true from e p, ltb-true e before q))
+    go true true p false q = refl
+    go true false p c q = refl
+    go false b p c q = refl
+
+pub between-empty : (rows : List Row) (x from before : ℕ) → before ≤ from → 0 ≡ rows_between rows x from before
+unfolding rows_between count
+between-empty [] x from before h = refl
+between-empty (r ∷ rs) x from before h = rw (never (has r.keys x) r.end from before h) (between-empty rs x from before h)
 
 -- the lines strictly between two are those after the one and at or before the line in front of the other
 last_line : (a : Bool) (e from before : ℕ) → (a && (ltb from e && leb e (before - 1))) ≡ (a && (ltb from e && ltb e before))
