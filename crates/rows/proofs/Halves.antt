@@ -18,6 +18,7 @@ use Rattle.records.specs.declared.Row.{Row}
 use Rattle.book.specs.Layout.{lows_from, highs_from}
 use Rattle.book.specs.Book.{key_word, row_at, rows_of, rows_in, row_count}
 use Rattle.rows.specs.Table.{half_from, made_within, rows_within}
+use Rattle.rows.proofs.Walk.{counted_more}
 use Rattle.rows.proofs.Words.{has_past}
 
 -- a digit below 2 ^ 32 is one of the remainder by it
@@ -80,16 +81,8 @@ module _ (ws : List ℕ) (x : ℕ) where
   pub within_more : (i half n after until : ℕ) (b : Bool) → x < 64 → half ≡ half_from x → (n ≤ i) × (n ≡ count (made_within x after until) (rows_of ws i))
       → b ≡ (has (get_or ws (half + i) 0) (x % 32) && (ltb after (row_at ws i).end && leb (row_at ws i).end until))
       → (n + from_bool b ≤ i + 1) × (n + from_bool b ≡ count (made_within x after until) (rows_of ws (i + 1)))
-  unfolding rows_of count
-  within_more i half n after until b h e f g = (one b, rw (add-one i, half_has i h, ← e, ← g, ← f.1) (more b))
-    where
-      one : (b : Bool) → n + from_bool b ≤ i + 1
-      one true = omega (arith, f.0)
-      one false = omega (arith, f.0)
-
-      more : (b : Bool) → n + from_bool b ≡ cond b (suc n) n
-      more true = omega arith
-      more false = omega arith
+  within_more i half n after until b h e f g =
+      counted_more ws (made_within x after until) i n b f (g ∙ ap (λ (k : ℕ). has (get_or ws (k + i) 0) (x % 32) && (ltb after (row_at ws i).end && leb (row_at ws i).end until)) e ∙ ap (λ (c : Bool). c && (ltb after (row_at ws i).end && leb (row_at ws i).end until)) (sym (half_has i h)))
 
   -- and where no line is in the span
   pub within_none : (i n after until : ℕ) → until ≤ after → (n ≤ i) × (n ≡ count (made_within x after until) (rows_of ws i))

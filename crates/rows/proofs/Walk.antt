@@ -1,6 +1,7 @@
 -- A walk over the rows of the memory: what one row more, or one less, tells.
 use Prim.Native.Nat.{ℕ, zero, suc, ◌+◌, ◌-◌, ◌≤◌, ◌<◌}
 use native.Mathlib.Omega.{arith}
+use native.Mathlib.Numerals.{add-one}
 use mathlib.Core.Path.{◌≡◌, refl, sym}
 use mathlib.Core.Bool.{Bool, true, false, cond, ◌||◌}
 use mathlib.Core.List.{List, [], ◌∷◌}
@@ -10,7 +11,8 @@ use borrow.Author.Tests.{lt-ltb, eq-eqb, ne_eqb}
 use Rattle.std.proofs.Math.Bool.{or_comm}
 use Rattle.std.proofs.Math.Nat.{zero-add}
 use Rattle.std.specs.List.{list_any, range_with_len}
-use Rattle.lists.specs.Lists.{any}
+use Rattle.std.specs.Int.{from_bool}
+use Rattle.lists.specs.Lists.{any, count}
 use Rattle.records.specs.Ledger.{row_of, named}
 use Rattle.records.specs.declared.Row.{Row}
 use Rattle.book.specs.Layout.{names_from}
@@ -85,3 +87,17 @@ module _ (ws : List ℕ) where
   unfolding any rows_of
   any_rows p zero = refl
   any_rows p (suc n) = rw (any_more (λ (i : ℕ). p (row_at ws i)) 0 n, zero-add n, any_rows p n) (or_comm (any p (rows_of ws n)) (p (row_at ws n)))
+
+-- what one row more adds to a count
+pub counted_more : (ws : List ℕ) (p : Row → Bool) (i n : ℕ) (b : Bool) → (n ≤ i) × (n ≡ count p (rows_of ws i)) → b ≡ p (row_at ws i)
+    → (n + from_bool b ≤ i + 1) × (n + from_bool b ≡ count p (rows_of ws (i + 1)))
+unfolding rows_of count
+counted_more ws p i n b f e = (one b, rw (add-one i, ← e, ← f.1) (more b))
+  where
+    one : (b : Bool) → n + from_bool b ≤ i + 1
+    one true = omega (arith, f.0)
+    one false = omega (arith, f.0)
+
+    more : (b : Bool) → n + from_bool b ≡ cond b (suc n) n
+    more true = omega arith
+    more false = omega arith

@@ -3,7 +3,7 @@
 
 ghost use Rattle.std.specs.Prelude.{◌<◌, ◌≡◌, ◌≤◌, ◌&&◌, false, leb, ltb};
 ghost use Rattle.lists.specs.Lists.{any};
-ghost use Rattle.records.specs.Ledger.{has, overtakes, resolved, rows_between};
+ghost use Rattle.records.specs.Ledger.{has, meets, overtakes, resolved, rows_between};
 ghost use Rattle.book.specs.Book.{rows_in};
 ghost use Rattle.rows.specs.Table.{row_number, rows_within, half_from};
 
@@ -122,16 +122,24 @@ fn half_of(key: u32) -> usize
     if key < 32 { LOWS } else { HIGHS }
 }
 
-// Whether some row breaks WC for the row's own commit at a line.
+// Whether some row breaks WC for the row's own commit at a line. Every row is asked, with no way out at the first that does, so that the walk
+// stays a plain count.
 pub fn overtaken(memory: &[u32; WORDS], line: u32, row: Row) -> bool
     ensures { result ≡ any (overtakes line row) (rows_in memory.now) }
 {
-    (0..book::rows(memory)).any(|i| {
-        let end = memory[ENDS + i];
-        row.start < end
-            && end < line
-            && keys_of(memory[LOWS + i], memory[HIGHS + i]) & row.keys != 0
-    })
+    let mut n = 0;
+    for i in 0..book::rows(memory) {
+        let word = keys_of(memory[LOWS + i], memory[HIGHS + i]);
+        n += u32::from(is_overtaking(word, memory[ENDS + i], line, row));
+    }
+    0 < n
+}
+
+// A row with one of the row's keys whose commit line stands after its start and before the line.
+fn is_overtaking(word: u64, end: u32, line: u32, row: Row) -> bool
+    ensures { result ≡ (ltb row.start end && (ltb end line && meets word row.keys)) }
+{
+    (row.start < end) & (end < line) & (word & row.keys != 0)
 }
 
 // The line of W's commit where W committed and wrote the key, 0 for the start version, else NOWHERE.

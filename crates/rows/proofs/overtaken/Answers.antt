@@ -1,15 +1,17 @@
--- `overtaken` meets its contract: `any` over the numbers of the rows is `any` over the rows.
-use Rattle.std.proofs.Common.{ℕ, refl, ◌∙◌, rules, tests, arith}
-use Rattle.std.proofs.lemmas.Iterator.{YieldsList-from_range}
-use Rattle.std.proofs.lemmas.Iterator.Search.{any_from_yields_List}
-use Rattle.records.specs.Ledger.{overtakes}
-use Rattle.book.specs.Book.{row_at, row_count}
-use Rattle.rows.proofs.Walk.{any_rows}
+-- `overtaken` meets its contract: what was walked is counted, and something is counted where some row passes.
+use Rattle.std.proofs.Common.{◌≡◌, refl, arith}
+use Rattle.lists.specs.Lists as lists
+use Rattle.lists.proofs.Count.{any-count}
+use Rattle.book.specs.Book.{rows_of, row_count}
+use Rattle.rows.proofs.Walk.{counted_more}
 use Rattle.rows.proofs.overtaken.Goals as goal
 
+pub loop-i-init : goal.loop-i-init
+unfolding rows_of lists.count
+loop-i-init c = (omega arith, refl)
+
+pub loop-i-preserved : goal.loop-i-preserved
+loop-i-preserved c = rw c.from-n.ensures (counted_more _ _ _ _ _ c.loop-i.invariant (rw c.keys_of-word.ensures at c.is_overtaking.ensures))
+
 pub returns : goal.returns
-returns c =
-    let a = c.args in
-    let ws = a.memory.now in
-    any_from_yields_List (λ (i : ℕ). overtakes a.line a.row (row_at ws i)) _ _ c.any.result c.any.ensures.ran (YieldsList-from_range 0 _ (row_count ws) refl (omega arith)) (λ x b q k. search (rules, tests))
-    ∙ any_rows ws (overtakes a.line a.row) (row_count ws)
+returns c = let e : c.loop-i.i ≡ row_count c.args.memory.now = omega arith in rw (← e) (any-count _ _ _ c.loop-i.invariant.1)
