@@ -4,13 +4,15 @@ use native.Mathlib.Numerals.{add-one}
 use native.Mathlib.Omega.{arith}
 use mathlib.Core.Path.{◌≡◌, refl, sym, ap, ◌∙◌}
 use mathlib.Core.Bool.{Bool, true, false, cond}
-use mathlib.Core.List.{List}
+use mathlib.Core.List.{List, [], ◌∷◌, ◌++◌, map}
 use lib.Dec.{ltb}
 use borrow.Author.Tests.{lt-ltb, le-ltb}
-use lib.ListN.{length, get_or, drop, drop_of_length-le}
-use lib.Seq.{drop-cons, set_out}
+use lib.ListN.{length, get_or, set, take, drop, length-map, drop_of_length-le, get_or-map}
+use lib.Seq.{drop-cons, set_out, take-suc, take-suc-set, take_all}
+use Rattle.units.specs.Version.{start_version}
 use Rattle.units.proofs.Batches.{batch_items}
 use Rattle.units.specs.declared.Item.{Item}
+use Rattle.units.specs.declared.Ordinal.{Ordinal}
 use Rattle.units.specs.declared.Version.{Version}
 use Rattle.units.specs.declared.refusal.Refusal.{Refusal}
 use Rattle.units.specs.declared.refusal.Refusal.TheVariants.{NotAMessage}
@@ -20,7 +22,7 @@ use Rattle.message.specs.Line.{items_of, no_item, batch_of}
 use Rattle.message.specs.Read.{Reading, whole, bad, read_line, message_of}
 use Rattle.message.specs.declared.read.Message.{Message}
 use Rattle.message.proofs.Exactly.{exactly}
-use Rattle.copy.specs.Copy.{done, held, carried_version, replaced, take_item, take_items, take_reading, take_line, take_step}
+use Rattle.copy.specs.Copy.{done, held, ordinal_of, ordinals_of, carried_version, replaced, take_item, take_items, take_reading, take_line, take_step}
 use Rattle.copy.specs.declared.Copy.{Copy}
 
 -- ---- one version
@@ -90,3 +92,20 @@ module _ (c : Copy) (s : List ℕ) {m : Option Message} (e : m ≡ message_of (r
           let h : Err f ≡ ok_or none NotAMessage = rw q at o in
           let g : f ≡ NotAMessage = cc in
           rw g
+
+-- ---- the ordinals: those copied so far are the first of all
+
+module _ (c : Copy) (all : List Ordinal) (i : ℕ) (e : take i all ≡ take i (ordinals_of c)) where
+  pub ordinals-next : i < length all → i < length c.versions → take (i + 1) (set all i (held c i).ordinal) ≡ take (i + 1) (ordinals_of c)
+  unfolding ordinals_of
+  ordinals-next h g =
+      let l : i < length (map ordinal_of c.versions) = rw (length-map c.versions ordinal_of) g in
+      let f : take (i + 1) (set all i (held c i).ordinal) ≡ take i all ++ ((held c i).ordinal ∷ []) = rw (add-one i) (take-suc-set all i (held c i).ordinal h) in
+      let k : take (i + 1) (map ordinal_of c.versions) ≡ take i (map ordinal_of c.versions) ++ (get_or (map ordinal_of c.versions) i (ordinal_of start_version) ∷ []) = rw (add-one i) (take-suc (map ordinal_of c.versions) i (ordinal_of start_version) l) in
+      f ∙ ap (λ (x : List Ordinal). x ++ ((held c i).ordinal ∷ [])) e ∙ ap (λ (o : Ordinal). take i (map ordinal_of c.versions) ++ (o ∷ [])) (sym (get_or-map ordinal_of c.versions i start_version)) ∙ sym k
+
+  pub ordinals_all : length all ≤ i → length c.versions ≤ i → all ≡ ordinals_of c
+  unfolding ordinals_of
+  ordinals_all h g =
+      let l : length (map ordinal_of c.versions) ≤ i = rw (length-map c.versions ordinal_of) g in
+      sym (take_all i all h) ∙ e ∙ take_all i (map ordinal_of c.versions) l

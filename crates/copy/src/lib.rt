@@ -38,7 +38,11 @@ impl Copy {
     pub fn ordinals(self) -> [Ordinal; limits::KEYS]
         ensures { result ≡ ordinals_of self }
     {
-        self.versions.map(|version| version.ordinal)
+        let mut all = [Ordinal(0); limits::KEYS];
+        for k in 0..limits::KEYS {
+            all[k] = self.versions[k].ordinal;
+        }
+        all
     }
 
     // A line that is not of the form leaves the copy as it was.
