@@ -91,6 +91,7 @@ impl Stored for Mark {
         }
     }
 
+    #[inline]
     fn store(&self, memory: &mut [u32; WORDS], at: usize) {
         memory[at] = self.key;
         memory[at + 1] = self.ordinal.0;
@@ -116,6 +117,7 @@ impl Stored for Write {
         }
     }
 
+    #[inline]
     fn store(&self, memory: &mut [u32; WORDS], at: usize) {
         memory[at] = self.key;
         memory[at + 1] = word_of(self.value);
@@ -123,6 +125,7 @@ impl Stored for Write {
 }
 
 // Fills the row with what stands from a word on.
+#[inline]
 fn load_row<T: Stored>(memory: &[u32; WORDS], from: usize, row: &mut [T])
     requires { from + T.WIDTH * length row.old ≤ word_count }
     ensures { row.new ≡ tab (λ (i : ℕ). T.stands memory.now (from + T.WIDTH * i)) (length row.old) }
@@ -133,6 +136,7 @@ fn load_row<T: Stored>(memory: &[u32; WORDS], from: usize, row: &mut [T])
 }
 
 // Lays the row's words down from a word on.
+#[inline]
 fn store_row<T: Stored>(memory: &mut [u32; WORDS], from: usize, row: &[T])
     requires { from + T.WIDTH * length row.now ≤ word_count }
     ensures { memory.new ≡ sets memory.old from (row_words T.words row.now) }
@@ -161,6 +165,7 @@ pub fn load(memory: &[u32; WORDS], place: usize) -> Transaction
     t
 }
 
+#[inline]
 pub fn store(memory: &mut [u32; WORDS], place: usize, t: Transaction)
     ensures { memory.new ≡ stored memory.old place t }
 {
