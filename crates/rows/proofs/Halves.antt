@@ -4,16 +4,19 @@ use native.Mathlib.Omega.{arith}
 use native.Mathlib.Numerals.{add-one}
 use Rattle.std.specs.Int.{from_bool}
 use mathlib.Core.Path.{◌≡◌, refl, sym, ◌∙◌, ap}
-use mathlib.Core.Bool.{Bool, true, false, cond, ◌&&◌}
+use mathlib.Core.Logic.{◌↔◌}
+use mathlib.Core.Bool.{Bool, true, false, cond, not, ◌&&◌}
 use mathlib.Core.List.{List, [], ◌∷◌}
 use lib.Dec.{eqb, leb, ltb}
 use lib.ListN.{get_or}
 use lib.Pow.{field, mod-mod-pow, shr-shr}
-use borrow.Author.Tests.{ltb-true, ltb-false, leb-true, leb-false, lt-ltb, le-ltb}
+use borrow.Author.Tests.{ltb-true, ltb-false, leb-true, leb-false, lt-ltb, le-ltb, eq-eqb, ne_eqb, eqb-true, eqb-false}
+use Rattle.std.specs.Int.Bits.{bit_and, bit_or, or_add_and}
+use Rattle.std.proofs.lemmas.Nat.{and_le_l, and_le_r, and_mod, and_shr}
 use Rattle.lists.proofs.Count.{count_same}
 use Rattle.lists.proofs.Every.{every_each}
 use Rattle.lists.specs.Lists.{count, bit}
-use Rattle.records.specs.Ledger.{has, made_between, rows_between}
+use Rattle.records.specs.Ledger.{has, meets, made_between, rows_between}
 use Rattle.records.specs.declared.Row.{Row}
 use Rattle.book.specs.Layout.{lows_from, highs_from}
 use Rattle.book.specs.Book.{key_word, row_at, rows_of, rows_in, row_count}
@@ -132,3 +135,31 @@ pub between_last : (rows : List Row) (x from before : ℕ) → rows_within rows 
 unfolding rows_within rows_between
 between_last rows x from before =
     count_same (made_within x from (before - 1)) (made_between x from before) (every_each (λ r. last_line (has r.keys x) r.end from before) rows)
+
+-- a word meets another exactly if one of its halves does
+pub met_halves : (low high k : ℕ) → low < 4294967296 → high < 4294967296
+    → not (eqb (bit_or (bit_and low (k % 4294967296)) (bit_and high (k / 4294967296))) 0) ≡ meets (key_word low high) k
+met_halves low high k f g =
+    let w : ℕ = key_word low high in
+    let a : w % 4294967296 ≡ low = omega (arith, f, g) in
+    let b : w / 4294967296 ≡ high = omega (arith, f, g) in
+    let x : bit_and w k % 4294967296 ≡ bit_and low (k % 4294967296) = and_mod w k 32 ∙ ap (λ (n : ℕ). bit_and n (k % 4294967296)) a in
+    let y : bit_and w k / 4294967296 ≡ bit_and high (k / 4294967296) = and_shr w k 32 ∙ ap (λ (n : ℕ). bit_and n (k / 4294967296)) b in
+    ap not (same_zero _ _ (none x y))
+  where
+    p : ℕ
+    p = bit_and low (k % 4294967296)
+
+    q : ℕ
+    q = bit_and high (k / 4294967296)
+
+    none : bit_and (key_word low high) k % 4294967296 ≡ p → bit_and (key_word low high) k / 4294967296 ≡ q → (bit_or p q ≡ 0) ↔ (bit_and (key_word low high) k ≡ 0)
+    none x y =
+        (λ e. omega (arith, x, y, e, or_add_and p q, and_le_l p q, and_le_r p q), λ e. omega (arith, x, y, e, or_add_and p q))
+
+    same_zero : (m n : ℕ) → ((m ≡ 0) ↔ (n ≡ 0)) → eqb m 0 ≡ eqb n 0
+    same_zero m n h = go (eqb m 0) refl
+      where
+        go : (b : Bool) → eqb m 0 ≡ b → b ≡ eqb n 0
+        go true e = sym (eq-eqb n 0 (h.0 (eqb-true m 0 e)))
+        go false e = sym (ne_eqb n 0 (λ z. eqb-false m 0 e (h.1 z)))

@@ -4,10 +4,10 @@
 ghost use Rattle.std.specs.Prelude.{◌<◌, ◌≡◌, ◌≤◌, ◌&&◌, false, leb, ltb};
 ghost use Rattle.lists.specs.Lists.{any};
 ghost use Rattle.records.specs.Ledger.{has, meets, overtakes, resolved, rows_between};
-ghost use Rattle.book.specs.Book.{rows_in};
+ghost use Rattle.book.specs.Book.{key_word, rows_in};
 ghost use Rattle.rows.specs.Table.{row_number, rows_within, half_from};
 
-use book::{ENDS, HIGHS, LOWS, NAMES, WORDS, keys_of};
+use book::{ENDS, HIGHS, LOWS, NAMES, WORDS};
 use records::{NOWHERE, Row};
 
 // The newest row of a name, by its number from 1; 0 where there is none.
@@ -129,17 +129,18 @@ pub fn overtaken(memory: &[u32; WORDS], line: u32, row: Row) -> bool
 {
     let mut n = 0;
     for i in 0..book::rows(memory) {
-        let word = keys_of(memory[LOWS + i], memory[HIGHS + i]);
-        n += u32::from(is_overtaking(word, memory[ENDS + i], line, row));
+        let end = memory[ENDS + i];
+        let met = is_met(memory[LOWS + i], memory[HIGHS + i], row.keys);
+        n += u32::from((row.start < end) & ((end < line) & met));
     }
     0 < n
 }
 
-// A row with one of the row's keys whose commit line stands after its start and before the line.
-fn is_overtaking(word: u64, end: u32, line: u32, row: Row) -> bool
-    ensures { result ≡ (ltb row.start end && (ltb end line && meets word row.keys)) }
+// Whether two sets of keys have one in common, of which one stands in halves: half by half, so that more rows go through the machine at a time.
+fn is_met(low: u32, high: u32, keys: u64) -> bool
+    ensures { result ≡ meets (key_word low high) keys }
 {
-    (row.start < end) & (end < line) & (word & row.keys != 0)
+    (low & (keys % (1 << 32)) as u32) | (high & (keys >> 32) as u32) != 0
 }
 
 // The line of W's commit where W committed and wrote the key, 0 for the start version, else NOWHERE.

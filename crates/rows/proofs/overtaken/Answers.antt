@@ -11,7 +11,7 @@ unfolding rows_of lists.count
 loop-i-init c = (omega arith, refl)
 
 pub loop-i-preserved : goal.loop-i-preserved
-loop-i-preserved c = rw c.from-n.ensures (counted_more _ _ _ _ _ c.loop-i.invariant (rw c.keys_of-word.ensures at c.is_overtaking.ensures))
+loop-i-preserved c = rw c.from-n.ensures (counted_more _ _ _ _ _ c.loop-i.invariant (rw c.is_met-met.ensures refl))
 
 pub returns : goal.returns
 returns c = let e : c.loop-i.i ≡ row_count c.args.memory.now = omega arith in rw (← e) (any-count _ _ _ c.loop-i.invariant.1)
