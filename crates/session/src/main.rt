@@ -8,10 +8,13 @@ mod step;
 mod table;
 
 use arrayvec::ArrayVec;
-use std::io;
+use memory::WORDS;
+use reply::put_refusal;
 use std::io::{ErrorKind, Read, Write};
+use std::{io, mem};
 use step::step_of;
 use table::{REPLY, Table};
+use texts::Text;
 
 // The longest line that can be a step, with its newline.
 const LINE: usize = 401;
@@ -20,22 +23,22 @@ const INPUT: usize = 4096;
 
 const OUTPUT: usize = 8192;
 
-// A table, the line that is read so far, the room for a message, and the replies that are not written yet.
+// A table, what earlier reads gave of a line that goes on, the room for a message, and the replies that are not written yet.
 #[derive(Drop)]
-struct Session {
-    table: Table,
+struct Session<'m> {
+    table: Table<'m>,
     line: ArrayVec<u8, LINE>,
     room: [u8; REPLY],
-    replies: ArrayVec<u8, OUTPUT>,
+    replies: Text<OUTPUT>,
 }
 
-impl Session {
-    fn open() -> Session {
+impl<'m> Session<'m> {
+    fn open(memory: &'m mut [u32; WORDS]) -> Session<'m> {
         Session {
-            table: Table::open(),
+            table: Table::open(memory),
             line: ArrayVec::new(),
             room: [0; REPLY],
-            replies: ArrayVec::new(),
+            replies: Text::new(),
         }
     }
 
@@ -58,43 +61,48 @@ impl Session {
         self.write_replies(rt)
     }
 
-    // A line that is too long loses what does not go in, and its newline with that.
+    // A line that stands whole in one read is played where it stands. A line that is too long loses what does not go in, and its newline with that.
     fn hear(&mut self, rt: &impl Print, input: &[u8]) -> io::Result<()> {
         for part in input.split_inclusive(|b| *b == b'\n') {
-            self.line.write(part)?;
-            if part.ends_with(b"\n") {
-                self.play_line(rt)?;
+            if !part.ends_with(b"\n") {
+                self.line.write(part)?;
+            } else if self.line.is_empty() {
+                self.play_line(rt, &part[..part.len().min(LINE)])?;
+            } else {
+                self.line.write(part)?;
+                let line = mem::take(&mut self.line);
+                self.play_line(rt, line.as_slice())?;
             }
         }
         Ok(())
     }
 
-    fn play_line(&mut self, rt: &impl Print) -> io::Result<()> {
-        if self.replies.remaining_capacity() <= REPLY {
+    fn play_line(&mut self, rt: &impl Print, line: &[u8]) -> io::Result<()> {
+        if OUTPUT - REPLY <= self.replies.bytes().len() {
             self.write_replies(rt)?;
         }
-        self.answer()?;
-        self.line.clear();
+        self.answer(line).ok_or(ErrorKind::WriteZero)?;
         Ok(())
     }
 
-    fn answer(&mut self) -> io::Result<()> {
-        let Some(step) = step_of(self.line.as_slice()) else {
-            return self.replies.write_all(b"unknown\n");
+    fn answer(&mut self, line: &[u8]) -> Option<()> {
+        let Some(step) = step_of(line) else {
+            return self.replies.put(b"unknown\n");
         };
         match self.table.play(step, &mut self.room) {
-            Ok(reply) => reply.write(&mut self.replies),
-            Err(refusal) => writeln!(self.replies, "refused {}", refusal.number()),
+            Ok(reply) => reply.put(&mut self.replies),
+            Err(refusal) => put_refusal(&mut self.replies, refusal),
         }
     }
 
     fn write_replies(&mut self, rt: &impl Print) -> io::Result<()> {
-        rt.write_all(self.replies.as_slice())?;
-        self.replies.clear();
+        rt.write_all(self.replies.bytes())?;
+        self.replies = Text::new();
         Ok(())
     }
 }
 
 fn main(rt: HostRuntime) -> io::Result<()> {
-    Session::open().play(&rt, &mut rt.stdin())
+    let mut memory = [0; WORDS];
+    Session::open(&mut memory).play(&rt, &mut rt.stdin())
 }

@@ -1,9 +1,8 @@
 // The replies of a session's steps, and the line that docs/SESSION.md gives each.
 use comparison::Behind;
 use master::Reading;
-use std::io::Write;
-use std::{fmt, io};
-use units::{Ordinal, Rule, Stamp, Version};
+use texts::Text;
+use units::{Refusal, Rule, Stamp, Version};
 
 // A reply; the message is a line by itself.
 #[derive(Clone, Copy)]
@@ -26,60 +25,90 @@ pub(crate) enum Reply<'a> {
     Compare(Behind),
 }
 
+// Each put answers None where its line does not fit.
 impl Reply<'_> {
-    pub(crate) fn write(self, out: &mut impl Write) -> io::Result<()> {
+    pub(crate) fn put<const N: usize>(self, out: &mut Text<N>) -> Option<()> {
         match self {
-            Reply::Open(clock) => writeln!(out, "open {}", clock.0),
-            Reply::Start(name) => writeln!(out, "start {}", name.0),
-            Reply::Read(Reading::Version(v)) => writeln!(out, "read {}", Held(v)),
-            Reply::Note(Reading::Version(v)) => writeln!(out, "note {}", Held(v)),
+            Reply::Open(clock) => put_stamp(out, b"open ", clock),
+            Reply::Start(name) => put_stamp(out, b"start ", name),
+            Reply::Read(Reading::Version(v)) => put_version(out, b"read ", v),
+            Reply::Note(Reading::Version(v)) => put_version(out, b"note ", v),
             Reply::Read(Reading::Own(value)) | Reply::Note(Reading::Own(value)) => {
-                writeln!(out, "own {value}")
+                out.put(b"own ")?;
+                out.put_signed(value)?;
+                out.put(b"\n")
             }
-            Reply::Write => writeln!(out, "write"),
-            Reply::Tune => writeln!(out, "tune"),
-            Reply::Distance(d) => writeln!(out, "distance {d}"),
-            Reply::Abort => writeln!(out, "abort"),
-            Reply::Commit(stamp) => writeln!(out, "commit {}", stamp.0),
-            Reply::Aborted(rule) => writeln!(out, "aborted {}", Broken(rule)),
-            Reply::Message(line) => out.write_all(line),
-            Reply::Newest(stamp) => writeln!(out, "newest {}", stamp.0),
-            Reply::Copy => writeln!(out, "copy"),
-            Reply::Take => writeln!(out, "take"),
-            Reply::Look(v) => writeln!(out, "look {}", Held(v)),
-            Reply::Compare(Behind { word, keys, lowest }) => {
-                writeln!(out, "compare {word} {keys} {lowest}")
-            }
+            Reply::Write => out.put(b"write\n"),
+            Reply::Tune => out.put(b"tune\n"),
+            Reply::Distance(d) => put_distance(out, d),
+            Reply::Abort => out.put(b"abort\n"),
+            Reply::Commit(stamp) => put_stamp(out, b"commit ", stamp),
+            Reply::Aborted(rule) => put_rule(out, rule),
+            Reply::Message(line) => out.put(line),
+            Reply::Newest(stamp) => put_stamp(out, b"newest ", stamp),
+            Reply::Copy => out.put(b"copy\n"),
+            Reply::Take => out.put(b"take\n"),
+            Reply::Look(v) => put_version(out, b"look ", v),
+            Reply::Compare(Behind { word, keys, lowest }) => put_numbers(
+                out,
+                b"compare ",
+                word,
+                &[u64::from(keys), u64::from(lowest)],
+            ),
         }
     }
 }
 
-// A version as a reply shows it.
-#[derive(Clone, Copy)]
-struct Held(Version);
+pub(crate) fn put_refusal<const N: usize>(out: &mut Text<N>, refusal: Refusal) -> Option<()> {
+    put_numbers(out, b"refused ", u64::from(refusal.number()), &[])
+}
 
-impl fmt::Display for Held {
-    fn fmt<W: fmt::Write>(&self, f: &mut fmt::Formatter<W>) -> fmt::Result {
-        let Version {
-            ordinal: Ordinal(ordinal),
-            stamp: Stamp(stamp),
-            value,
-        } = self.0;
-        write!(f, "{ordinal} {stamp} {value}")
+fn put_stamp<const N: usize>(out: &mut Text<N>, word: &[u8], stamp: Stamp) -> Option<()> {
+    put_numbers(out, word, u64::from(stamp.0), &[])
+}
+
+fn put_version<const N: usize>(out: &mut Text<N>, word: &[u8], version: Version) -> Option<()> {
+    out.put(word)?;
+    out.put_natural(u64::from(version.ordinal.0))?;
+    out.put(b" ")?;
+    out.put_natural(u64::from(version.stamp.0))?;
+    out.put(b" ")?;
+    out.put_signed(version.value)?;
+    out.put(b"\n")
+}
+
+fn put_distance<const N: usize>(out: &mut Text<N>, distance: i64) -> Option<()> {
+    out.put(if distance < 0 {
+        b"distance -"
+    } else {
+        b"distance "
+    })?;
+    out.put_natural(distance.unsigned_abs())?;
+    out.put(b"\n")
+}
+
+// A broken rule, with the places of the reads or writes that broke it.
+fn put_rule<const N: usize>(out: &mut Text<N>, rule: Rule) -> Option<()> {
+    match rule {
+        Rule::BV(i) => put_numbers(out, b"aborted BV ", i as u64, &[]),
+        Rule::FV(i) => put_numbers(out, b"aborted FV ", i as u64, &[]),
+        Rule::SV(i, j) => put_numbers(out, b"aborted SV ", i as u64, &[j as u64]),
+        Rule::WC(i) => put_numbers(out, b"aborted WC ", i as u64, &[]),
     }
 }
 
-// A broken rule as a reply shows it, with the places of the reads or writes that broke it.
-#[derive(Clone, Copy)]
-struct Broken(Rule);
-
-impl fmt::Display for Broken {
-    fn fmt<W: fmt::Write>(&self, f: &mut fmt::Formatter<W>) -> fmt::Result {
-        match self.0 {
-            Rule::BV(i) => write!(f, "BV {i}"),
-            Rule::FV(i) => write!(f, "FV {i}"),
-            Rule::SV(i, j) => write!(f, "SV {i} {j}"),
-            Rule::WC(i) => write!(f, "WC {i}"),
-        }
+// A word with the space behind it, and numbers parted by one space.
+fn put_numbers<const N: usize>(
+    out: &mut Text<N>,
+    word: &[u8],
+    first: u64,
+    others: &[u64],
+) -> Option<()> {
+    out.put(word)?;
+    out.put_natural(first)?;
+    for n in others {
+        out.put(b" ")?;
+        out.put_natural(*n)?;
     }
+    out.put(b"\n")
 }

@@ -1,4 +1,4 @@
-// The table at which a session is played: the master's memory and the hall's copy, and what each step does to them.
+// The table at which a session is played: the master's lent memory and the hall's copy, and what each step does to them.
 use crate::reply::Reply;
 use crate::step::Step;
 use copy::Copy;
@@ -10,15 +10,14 @@ use units::{Refusal, Stamp};
 pub(crate) const REPLY: usize = 512;
 
 #[derive(Drop)]
-pub(crate) struct Table {
-    memory: [u32; WORDS],
+pub(crate) struct Table<'m> {
+    memory: &'m mut [u32; WORDS],
     copy: Copy,
 }
 
-impl Table {
-    pub(crate) fn open() -> Table {
-        let mut memory = [0; WORDS];
-        desk::open(&mut memory, Stamp(0));
+impl<'m> Table<'m> {
+    pub(crate) fn open(memory: &'m mut [u32; WORDS]) -> Table<'m> {
+        desk::open(memory, Stamp(0));
         Table {
             memory,
             copy: Copy::fresh(),
@@ -31,7 +30,7 @@ impl Table {
         step: Step<'_>,
         room: &'a mut [u8; REPLY],
     ) -> Result<Reply<'a>, Refusal> {
-        let memory = &mut self.memory;
+        let memory = &mut *self.memory;
         Ok(match step {
             Step::Open(clock) => {
                 desk::open(memory, clock);
