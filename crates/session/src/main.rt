@@ -85,6 +85,8 @@ impl<'m> Session<'m> {
         Ok(())
     }
 
+    // Not inlined: else play_line is not, and its result, as large as an error, is stored and loaded for each line.
+    #[inline(never)]
     fn answer(&mut self, line: &[u8]) -> Option<()> {
         let Some(step) = step_of(line) else {
             return self.replies.put(b"unknown\n");

@@ -28,33 +28,27 @@ pub(crate) fn step_of(line: &[u8]) -> Option<Step<'_>> {
         return Some(Step::Take(message));
     }
     let mut words = text.split(|b| *b == b' ');
-    let step = match words.next()? {
-        b"open" => Step::Open(stamp(words.next())?),
+    let word = words.next()?;
+    let mut natural = || number(words.next());
+    let step = match word {
+        b"open" => Step::Open(Stamp(natural()?)),
         b"start" => Step::Start,
-        b"read" => Step::Read(stamp(words.next())?, number(words.next())?),
-        b"note" => Step::Note(
-            stamp(words.next())?,
-            number(words.next())?,
-            Ordinal(number(words.next())?),
-        ),
-        b"write" => Step::Write(
-            stamp(words.next())?,
-            number(words.next())?,
-            value(words.next())?,
-        ),
+        b"read" => Step::Read(Stamp(natural()?), natural()?),
+        b"note" => Step::Note(Stamp(natural()?), natural()?, Ordinal(natural()?)),
+        b"write" => Step::Write(Stamp(natural()?), natural()?, value(words.next())?),
         b"tune" => Step::Tune(
-            stamp(words.next())?,
-            bound(words.next())?,
-            bound(words.next())?,
-            bound(words.next())?,
+            Stamp(natural()?),
+            bound(natural()?)?,
+            bound(natural()?)?,
+            bound(natural()?)?,
         ),
-        b"distance" => Step::Distance(stamp(words.next())?, number(words.next())?),
-        b"abort" => Step::Abort(stamp(words.next())?),
-        b"commit" => Step::Commit(stamp(words.next())?),
-        b"message" => Step::Message(stamp(words.next())?, number(words.next())?),
-        b"newest" => Step::Newest(number(words.next())?),
+        b"distance" => Step::Distance(Stamp(natural()?), natural()?),
+        b"abort" => Step::Abort(Stamp(natural()?)),
+        b"commit" => Step::Commit(Stamp(natural()?)),
+        b"message" => Step::Message(Stamp(natural()?), natural()?),
+        b"newest" => Step::Newest(natural()?),
         b"copy" => Step::Copy,
-        b"look" => Step::Look(number(words.next())?),
+        b"look" => Step::Look(natural()?),
         b"compare" => Step::Compare,
         _ => return None,
     };
@@ -64,12 +58,8 @@ pub(crate) fn step_of(line: &[u8]) -> Option<Step<'_>> {
     Some(step)
 }
 
-fn stamp(word: Option<&[u8]>) -> Option<Stamp> {
-    Some(Stamp(number(word)?))
-}
-
-fn bound(word: Option<&[u8]>) -> Option<u16> {
-    u16::try_from(number(word)?).ok()
+fn bound(n: u32) -> Option<u16> {
+    u16::try_from(n).ok()
 }
 
 fn number(word: Option<&[u8]>) -> Option<u32> {
