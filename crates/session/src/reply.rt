@@ -25,56 +25,45 @@ pub(crate) enum Reply<'a> {
     Compare(Behind),
 }
 
-// Each put answers None where its line does not fit.
+// Each put answers None where its text does not fit.
 impl Reply<'_> {
     pub(crate) fn put<const N: usize>(self, out: &mut Text<N>) -> Option<()> {
         match self {
-            Reply::Open(clock) => put_stamp(out, b"open ", clock),
-            Reply::Start(name) => put_stamp(out, b"start ", name),
-            Reply::Read(Reading::Version(v)) => put_version(out, b"read ", v),
-            Reply::Note(Reading::Version(v)) => put_version(out, b"note ", v),
+            Reply::Open(clock) => put_line(out, b"open", &[u64::from(clock.0)]),
+            Reply::Start(name) => put_line(out, b"start", &[u64::from(name.0)]),
+            Reply::Read(Reading::Version(v)) => put_version(out, b"read", v),
+            Reply::Note(Reading::Version(v)) => put_version(out, b"note", v),
             Reply::Read(Reading::Own(value)) | Reply::Note(Reading::Own(value)) => {
-                out.put(b"own ")?;
-                out.put_signed(value)?;
-                out.put(b"\n")
+                out.put(b"own")?;
+                put_value(out, value)
             }
             Reply::Write => out.put(b"write\n"),
             Reply::Tune => out.put(b"tune\n"),
             Reply::Distance(d) => put_distance(out, d),
             Reply::Abort => out.put(b"abort\n"),
-            Reply::Commit(stamp) => put_stamp(out, b"commit ", stamp),
+            Reply::Commit(stamp) => put_line(out, b"commit", &[u64::from(stamp.0)]),
             Reply::Aborted(rule) => put_rule(out, rule),
             Reply::Message(line) => out.put(line),
-            Reply::Newest(stamp) => put_stamp(out, b"newest ", stamp),
+            Reply::Newest(stamp) => put_line(out, b"newest", &[u64::from(stamp.0)]),
             Reply::Copy => out.put(b"copy\n"),
             Reply::Take => out.put(b"take\n"),
-            Reply::Look(v) => put_version(out, b"look ", v),
-            Reply::Compare(Behind { word, keys, lowest }) => put_numbers(
+            Reply::Look(v) => put_version(out, b"look", v),
+            Reply::Compare(Behind { word, keys, lowest }) => put_line(
                 out,
-                b"compare ",
-                word,
-                &[u64::from(keys), u64::from(lowest)],
+                b"compare",
+                &[word, u64::from(keys), u64::from(lowest)],
             ),
         }
     }
 }
 
 pub(crate) fn put_refusal<const N: usize>(out: &mut Text<N>, refusal: Refusal) -> Option<()> {
-    put_numbers(out, b"refused ", u64::from(refusal.number()), &[])
+    put_line(out, b"refused", &[u64::from(refusal.number())])
 }
 
-fn put_stamp<const N: usize>(out: &mut Text<N>, word: &[u8], stamp: Stamp) -> Option<()> {
-    put_numbers(out, word, u64::from(stamp.0), &[])
-}
-
-fn put_version<const N: usize>(out: &mut Text<N>, word: &[u8], version: Version) -> Option<()> {
-    out.put(word)?;
-    out.put_natural(u64::from(version.ordinal.0))?;
-    out.put(b" ")?;
-    out.put_natural(u64::from(version.stamp.0))?;
-    out.put(b" ")?;
-    out.put_signed(version.value)?;
-    out.put(b"\n")
+fn put_version<const N: usize>(out: &mut Text<N>, word: &[u8], v: Version) -> Option<()> {
+    put_numbers(out, word, &[u64::from(v.ordinal.0), u64::from(v.stamp.0)])?;
+    put_value(out, v.value)
 }
 
 fn put_distance<const N: usize>(out: &mut Text<N>, distance: i64) -> Option<()> {
@@ -90,25 +79,30 @@ fn put_distance<const N: usize>(out: &mut Text<N>, distance: i64) -> Option<()> 
 // A broken rule, with the places of the reads or writes that broke it.
 fn put_rule<const N: usize>(out: &mut Text<N>, rule: Rule) -> Option<()> {
     match rule {
-        Rule::BV(i) => put_numbers(out, b"aborted BV ", i as u64, &[]),
-        Rule::FV(i) => put_numbers(out, b"aborted FV ", i as u64, &[]),
-        Rule::SV(i, j) => put_numbers(out, b"aborted SV ", i as u64, &[j as u64]),
-        Rule::WC(i) => put_numbers(out, b"aborted WC ", i as u64, &[]),
+        Rule::BV(i) => put_line(out, b"aborted BV", &[i as u64]),
+        Rule::FV(i) => put_line(out, b"aborted FV", &[i as u64]),
+        Rule::SV(i, j) => put_line(out, b"aborted SV", &[i as u64, j as u64]),
+        Rule::WC(i) => put_line(out, b"aborted WC", &[i as u64]),
     }
 }
 
-// A word with the space behind it, and numbers parted by one space.
-fn put_numbers<const N: usize>(
-    out: &mut Text<N>,
-    word: &[u8],
-    first: u64,
-    others: &[u64],
-) -> Option<()> {
-    out.put(word)?;
-    out.put_natural(first)?;
-    for n in others {
+fn put_line<const N: usize>(out: &mut Text<N>, words: &[u8], numbers: &[u64]) -> Option<()> {
+    put_numbers(out, words, numbers)?;
+    out.put(b"\n")
+}
+
+fn put_numbers<const N: usize>(out: &mut Text<N>, words: &[u8], numbers: &[u64]) -> Option<()> {
+    out.put(words)?;
+    for n in numbers {
         out.put(b" ")?;
         out.put_natural(*n)?;
     }
+    Some(())
+}
+
+// The value at a line's end.
+fn put_value<const N: usize>(out: &mut Text<N>, value: i32) -> Option<()> {
+    out.put(b" ")?;
+    out.put_signed(value)?;
     out.put(b"\n")
 }
